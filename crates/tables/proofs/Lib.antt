@@ -1,0 +1,11 @@
+pub mod Keeping
+pub mod Faulted
+pub mod Walks
+pub mod Agrees
+pub mod Writes
+pub mod Lawful
+pub mod Invariant
+pub mod OnlyNew
+pub mod Finding
+pub mod Meanings
+pub mod Owning

@@ -1,0 +1,11 @@
+pub mod Numbers
+pub mod Names
+pub mod Feed
+pub mod Reading
+pub mod Draft
+pub mod Grammar
+pub mod Rules
+pub mod Only
+pub mod Meaning
+pub mod Law
+pub mod Cases
