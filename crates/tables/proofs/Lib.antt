@@ -2,10 +2,13 @@ pub mod Keeping
 pub mod Faulted
 pub mod Walks
 pub mod Agrees
+pub mod Written
 pub mod Writes
-pub mod Lawful
 pub mod Invariant
 pub mod OnlyNew
 pub mod Finding
 pub mod Meanings
 pub mod Owning
+pub mod Knowing
+pub mod Rooms
+pub mod Lawful

@@ -20,7 +20,7 @@ use Rattle.tables.specs.Feed as F
 use Rattle.tables.specs.Feed.{Stage, Tables, Texts, Fed, on, off, full, newRow, numberFrom, withNumber, numbered, enteredAs, closed}
 use Rattle.tables.specs.Reading.{carry}
 use Rattle.tables.specs.Grammar.{Entry, entry, Head, headed, headless, Rule, rule}
-use Rattle.tables.specs.Rules.{writeEntry, writeBody, writeHead, writeRule, written}
+use Rattle.tables.proofs.Written.{writeEntry, writeBody, writeHead, writeRule, written}
 use Rattle.tables.specs.Meaning.{Ext, Finds, Codes, bare, code, HeadIs, named, missing, Says, nothing, also, rowsIn, Ruled}
 use Rattle.tables.proofs.Finding.{ext-trans, finds-on, finds-new, codes-on, head-on}
 
@@ -37,7 +37,7 @@ map-On : (Q R : Stage → Tables → Type 0) (r : Fed) → ((s : Stage) (t : Tab
 map-On Q R (on s t) k h = k s t h
 map-On Q R (off c j t) k h = tt
 
-pushed : {X : Type 0} (xs : List X) (n : ℕ) (v : X) → n < length xs → take (n + 1) (set xs n v) ≡ take n xs ++ (v ∷ [])
+pub pushed : {X : Type 0} (xs : List X) (n : ℕ) (v : X) → n < length xs → take (n + 1) (set xs n v) ≡ take n xs ++ (v ∷ [])
 pushed xs n v h = ap (λ k. take k (set xs n v)) (add-one n) ∙ take-suc-set xs n v h
 
 has-room : (limit size n : ℕ) → full limit size n ≡ false → n < size

@@ -14,24 +14,31 @@ use Rattle.words.specs.Words.{Token, name, negation, arrow, comma, point, Readi
 use Rattle.words.specs.Running.{Running, more, ended, wrong, onward, runningBy, running}
 use Rattle.words.proofs.Cut.{Cut, cut-from}
 use Rattle.words.proofs.Small.{inside-text}
-use Rattle.tables.specs.Names.{isName}
+use Rattle.tables.specs.Names.{names, partOf, isName}
 use Rattle.tables.specs.Feed.{Texts, newRow}
 use Rattle.tables.specs.Grammar.{Spot, spot, spots, Entry, entry, Head, headed, headless, Rule, rule, IsEntry, plain, denied, IsBody, last, then, IsRule, fact, bar, whole, IsText, none, next}
 use Rattle.tables.specs.Draft.{textsFor}
 use Rattle.tables.proofs.Meanings.{Own, OwnEntry, OwnBody, OwnHead, OwnRules}
 
-owned : (text earlier b : List ℕ) (n k : ℕ) → Cut (drop k text) b → k < length text → Own (textsFor n text earlier) b k
-owned text earlier b n k c h =
+-- a name that is cut from the text is what its row names
+pub record Named (x : Texts) (b : List ℕ) (k : ℕ) : Type 0 where
+  pub names : names (newRow x b k) (x .region) (x .harbour) ≡ true
+  pub part : partOf (newRow x b k) (x .region) (x .harbour) ≡ b
+
+pub own : (x : Texts) (b : List ℕ) (k : ℕ) → Named x b k → Own x b k
+own x b k n = λ i. n .names i && ((ap (λ l. sameBytes l b) (n .part) ∙ sameBytes-decides b b .1 refl) i)
+
+named : (text earlier b : List ℕ) (n k : ℕ) → Cut (drop k text) b → k < length text → Named (textsFor n text earlier) b k
+named text earlier b n k c h =
     let f : ltb 0 (length b) ≡ true = lt-ltb 0 (length b) (c .some) in
     let r = c .room in
     let g : leb (k + length b) (length text) ≡ true = le-leb (k + length b) (length text) (omega (arith, length-drop k text)) in
-    let e : sameBytes (take (length b) (drop k text)) b ≡ true = sameBytes-decides (take (length b) (drop k text)) b .1 (sym (c .bytes)) in
-    let w : ((ltb 0 (length b) && leb (k + length b) (length text)) && sameBytes (take (length b) (drop k text)) b) ≡ true = (λ i. (f i && g i) && e i) in
-    cond-both (eqb n 0) _ _ (λ x. isName (x .region) (x .harbour) b (newRow x b k) ≡ true) (λ _. w) (λ _. w)
+    let w : (ltb 0 (length b) && leb (k + length b) (length text)) ≡ true = (λ i. f i && g i) in
+    cond-both (eqb n 0) _ _ (λ x. Named x b k) (λ _. record { names = w; part = sym (c .bytes) }) (λ _. record { names = w; part = sym (c .bytes) })
 
 module _ (x : Texts) where
-  abbrev OwnSpot : Token → ℕ → Type 0
-  OwnSpot (name b) k = Own x b k
+  abbrev pub OwnSpot : Token → ℕ → Type 0
+  OwnSpot (name b) k = Named x b k
   OwnSpot negation k = Unit {0}
   OwnSpot arrow k = Unit {0}
   OwnSpot comma k = Unit {0}
@@ -50,17 +57,17 @@ module _ (x : Texts) where
   right (spot t k ∷ ws) vs o = right ws vs (o .1)
 
   own-entry : {ws : List Spot} {e : Entry} → IsEntry ws e → OwnSpots ws → OwnEntry x e
-  own-entry (plain b k) o = o .0
-  own-entry (denied j b k) o = o .1 .0
+  own-entry (plain b k) o = own x b k (o .0)
+  own-entry (denied j b k) o = own x b k (o .1 .0)
 
   own-body : {ws : List Spot} {es : List Entry} → IsBody ws es → OwnSpots ws → OwnBody x es
   own-body (last ws e d) o = (own-entry d o, tt)
   own-body (then ws e j vs es d b) o = (own-entry d (left ws _ o), own-body b (right ws (spot comma j ∷ vs) o .1))
 
   own-rule : {ws : List Spot} {h : Head} {es : List Entry} {j : ℕ} → IsRule ws (rule h es j) → OwnSpots ws → OwnHead x h × OwnBody x es
-  own-rule (fact b k j) o = (o .0, tt)
+  own-rule (fact b k j) o = (own x b k (o .0), tt)
   own-rule (bar i ws es j d) o = (tt, own-body d (left ws _ (o .1)))
-  own-rule (whole b k i ws es j d) o = (o .0, own-body d (left ws _ (o .1 .1)))
+  own-rule (whole b k i ws es j d) o = (own x b k (o .0), own-body d (left ws _ (o .1 .1)))
 
   pub own-text : {ws : List Spot} {rs : List Rule} → IsText ws rs → OwnSpots ws → OwnRules x rs
   own-text none o = tt
@@ -71,7 +78,7 @@ module _ (text earlier : List ℕ) (d : ℕ) where
   X = textsFor d text earlier
 
   word-own : (from : ℕ) (t : Token) (k p : ℕ) → word t k p ≡ nextWord text from → OwnSpot X t k
-  word-own from (name b) k p e = owned text earlier b d k (cut-from text from b k p e) (inside-text text from (name b) k p e .inside)
+  word-own from (name b) k p e = named text earlier b d k (cut-from text from b k p e) (inside-text text from (name b) k p e .inside)
   word-own from negation k p e = tt
   word-own from arrow k p e = tt
   word-own from comma k p e = tt

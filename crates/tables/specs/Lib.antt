@@ -7,5 +7,6 @@ pub mod Grammar
 pub mod Rules
 pub mod Only
 pub mod Meaning
+pub mod Room
 pub mod Law
 pub mod Cases
