@@ -190,19 +190,33 @@ module _ (x : Texts) where
         let m = length-set (t .rules) (s .rules) (record { head = s .head; first = s .first; count = s .entries - s .first }) in
         record { ahead = λ us. refl; rules = λ us. omega arith; entries = λ us. refl; names-size = refl; rules-size = m; entries-size = refl; ready = record { names = r .names; rules = (h .0, let v = h .1 in omega arith); entries = r .entries } })
 
+    -- a word that writes nothing
+    quiet : (p q : Phase) (h : ℕ) (w : Spot) → ((known : List ℕ → Bool) (us : List Spot) → newNames x known us ≡ newNames x known (w ∷ us))
+      → ((us : List Spot) → rulesIn us ≡ rulesIn (w ∷ us)) → ((us : List Spot) → entriesIn (isStart q) us ≡ entriesIn (isStart p) (w ∷ us))
+      → Goes p s t w (record { phase = q; head = h; first = s .first; names = s .names; rules = s .rules; entries = s .entries }) t
+    quiet p q h w a b c = record {
+      ahead = λ us. ap (λ l. rowsAt s t ++ l) (a (KnownAt s t) us);
+      rules = λ us. ap (λ m. s .rules + m) (b us);
+      entries = λ us. ap (λ m. s .entries + m) (c us);
+      names-size = refl;
+      rules-size = refl;
+      entries-size = refl;
+      ready = record { names = r .names; rules = r .rules; entries = r .entries };
+      }
+
     feed-steps : (p : Phase) (k : Token) (at : ℕ) → OwnSpot x k at → Stepped p s t (spot k at) at (feedIn p x k at s t)
     feed-steps Start (name b) at o = head-steps b at o
     feed-steps Start negation at o = (place negation at refl refl, refl)
-    feed-steps Start arrow at o = record { ahead = λ us. refl; rules = λ us. refl; entries = λ us. refl; names-size = refl; rules-size = refl; entries-size = refl; ready = record { names = r .names; rules = r .rules; entries = r .entries } }
+    feed-steps Start arrow at o = quiet Start WantEntry 65535 (spot arrow at) (λ known us. refl) (λ us. refl) (λ us. refl)
     feed-steps Start comma at o = (place comma at refl refl, refl)
     feed-steps Start point at o = (place point at refl refl, refl)
     feed-steps AfterHead (name b) at o = (place (name b) at refl refl, refl)
     feed-steps AfterHead negation at o = (place negation at refl refl, refl)
-    feed-steps AfterHead arrow at o = record { ahead = λ us. refl; rules = λ us. refl; entries = λ us. refl; names-size = refl; rules-size = refl; entries-size = refl; ready = record { names = r .names; rules = r .rules; entries = r .entries } }
+    feed-steps AfterHead arrow at o = quiet AfterHead WantEntry (s .head) (spot arrow at) (λ known us. refl) (λ us. refl) (λ us. refl)
     feed-steps AfterHead comma at o = (place comma at refl refl, refl)
     feed-steps AfterHead point at o = close-steps AfterHead at
     feed-steps WantEntry (name b) at o = entry-steps WantEntry b at 0 o (λ us. refl)
-    feed-steps WantEntry negation at o = record { ahead = λ us. refl; rules = λ us. refl; entries = λ us. refl; names-size = refl; rules-size = refl; entries-size = refl; ready = record { names = r .names; rules = r .rules; entries = r .entries } }
+    feed-steps WantEntry negation at o = quiet WantEntry WantName (s .head) (spot negation at) (λ known us. refl) (λ us. refl) (λ us. refl)
     feed-steps WantEntry arrow at o = (place arrow at refl refl, refl)
     feed-steps WantEntry comma at o = (place comma at refl refl, refl)
     feed-steps WantEntry point at o = (place point at refl refl, refl)
@@ -214,7 +228,7 @@ module _ (x : Texts) where
     feed-steps AfterEntry (name b) at o = (place (name b) at refl refl, refl)
     feed-steps AfterEntry negation at o = (place negation at refl refl, refl)
     feed-steps AfterEntry arrow at o = (place arrow at refl refl, refl)
-    feed-steps AfterEntry comma at o = record { ahead = λ us. refl; rules = λ us. refl; entries = λ us. refl; names-size = refl; rules-size = refl; entries-size = refl; ready = record { names = r .names; rules = r .rules; entries = r .entries } }
+    feed-steps AfterEntry comma at o = quiet AfterEntry WantEntry (s .head) (spot comma at) (λ known us. refl) (λ us. refl) (λ us. refl)
     feed-steps AfterEntry point at o = close-steps AfterEntry at
 
   names-on : (p : Phase) (s : Stage) (t : Tables) (w : Spot) (s′ : Stage) (t′ : Tables) → Ready s t → Goes p s t w s′ t′ → (us : List Spot) → s′ .names + length (newNames x (KnownAt s′ t′) us) ≡ s .names + length (newNames x (KnownAt s t) (w ∷ us))
