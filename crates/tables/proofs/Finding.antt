@@ -12,7 +12,8 @@ use Rattle.tables.specs.declared.NameRow.{NameRow}
 use Rattle.tables.specs.Names.{isName, found}
 use Rattle.tables.specs.Feed.{Texts}
 use Rattle.tables.specs.Grammar.{Entry, entry, Head, headed, headless}
-use Rattle.tables.specs.Meaning.{Ext, Finds, Codes, bare, code, HeadIs, named, missing}
+use Rattle.tables.proofs.Ruled.{Ext}
+use Rattle.tables.specs.Meaning.{Finds, Codes, bare, code, HeadIs, named, missing}
 
 pub ext-trans : {X : Type 0} {xs ys zs : List X} → Ext xs ys → Ext ys zs → Ext xs zs
 ext-trans {X} {xs} {ys} {zs} a b = record { rest = a .rest ++ b .rest; is = b .is ∙ ap (λ l. l ++ b .rest) (a .is) ∙ append-assoc xs (a .rest) (b .rest) }

@@ -23,19 +23,27 @@ use Rattle.tables.specs.Only.{OnlyNew}
 use Rattle.tables.specs.Feed.{Tables, Texts, Fed, on, off, newRow}
 use Rattle.tables.specs.Reading.{run}
 use Rattle.tables.specs.Grammar.{Spot, spot, spots, Rule, IsText}
-use Rattle.tables.specs.Rules.{Ended, EndsAt, Begins}
-use Rattle.tables.specs.Room.{alsoKnown, newNames, rulesIn, entriesIn, knownIn, Within, NamesFit, Fits}
+use Rattle.tables.specs.Beginnings.{Ended, EndsAt, Begins}
+use Rattle.tables.specs.Limits.{namesMax, rulesMax, entriesMax}
+use Rattle.tables.specs.Room.{usedIn, noneKnown, alsoKnown, newNames, rulesIn, entriesIn, knownIn, Within, NamesFit, Fits}
 use Rattle.tables.specs.Draft.{Counts, Outcome, lineOf, clearedTables, refused, refusalOf, short, textsFor, stageFrom, settled, readIf, readOf}
-use Rattle.tables.specs.Law.{IsRules, Means, Against, misplaced, no-name-row, no-entry-row, no-rule-row, FirstFault, at-word, at-end, at-no-word, Limited, Refuted, Reads}
-use Rattle.tables.specs.Meaning.{Ruled}
+use Rattle.tables.specs.Law.{WrittenAs, Means, Against, misplaced, no-name-row, no-entry-row, no-rule-row, FirstFault, at-word, at-end, at-no-word, Refuted, Reads}
+use Rattle.tables.proofs.Ruled.{Ruled}
 use Rattle.tables.proofs.Invariant.{Holds}
 use Rattle.tables.proofs.OnlyNew.{New, only-new}
 use Rattle.tables.proofs.Meanings.{On, text-means}
 use Rattle.tables.proofs.Owning.{own-text, running-own}
 use Rattle.tables.proofs.Walks.{onto, also, walk, walk-append, text-walks, viable, stuck, sound}
 use Rattle.tables.proofs.Writes.{run-written}
+use Rattle.tables.proofs.FirstUse.{known-is-used}
 use Rattle.tables.proofs.Rooms as R
 use Rattle.tables.proofs.Rooms.{Ready, FitsAt, After, Stops, Tells, run-tells}
+
+-- a draft within its limits
+pub record Limited (d : Counts) : Type 0 where
+  pub names : d .names ≤ namesMax
+  pub rules : d .rules ≤ rulesMax
+  pub entries : d .entries ≤ entriesMax
 
 -- more words bring no fewer names, rules and entries
 fewer : (limit size m n : ℕ) → m ≤ n → Within limit size n → Within limit size m
@@ -143,21 +151,21 @@ module _ (d : Counts) (text earlier : List ℕ) (t : Tables) (l : Limited d) whe
     tells : Tells X (length text) Start (stageFrom d) t (running text 0) Ran
     tells = run-tells X (length text) (running text 0) (stageFrom d) t (running-own text earlier (d .texts)) r
 
-    means : (rs : List Rule) → IsRules text rs → On (Ruled X rs (stageFrom d) t) Ran
+    means : (rs : List Rule) → WrittenAs text rs → On (Ruled X rs (stageFrom d) t) Ran
     means rs i =
         subst (On (Ruled X rs (stageFrom d) t)) (sym (run-written X (length text) (running text 0) rs (i .ended) (i .derives) (stageFrom d) t refl))
         (text-means X rs (stageFrom d) t (own-text X (i .derives) (running-own text earlier (d .texts))) (r .names .1) refl)
 
-    said : (o : Fed) → Tells X (length text) Start (stageFrom d) t (running text 0) o → ((rs : List Rule) → IsRules text rs → On (Ruled X rs (stageFrom d) t) o)
-        → settled d text t o .result ≡ Ok tt → (rs : List Rule) × IsRules text rs × Fits X d t (spots (running text 0)) × Means d text earlier t rs (settled d text t o)
+    said : (o : Fed) → Tells X (length text) Start (stageFrom d) t (running text 0) o → ((rs : List Rule) → WrittenAs text rs → On (Ruled X rs (stageFrom d) t) o)
+        → settled d text t o .result ≡ Ok tt → (rs : List Rule) × WrittenAs text rs × Fits X d t (spots (running text 0)) × Means d text earlier t rs (settled d text t o)
     said (on s t′) y m e =
         let v = sound (spots (running text 0)) Start (y .walks) in
-        let i : IsRules text (v .rules) = record { ended = y .ended; derives = v .derives } in
+        let i : WrittenAs text (v .rules) = record { ended = y .ended; derives = v .derives } in
         let n = m (v .rules) i in
         (v .rules, i, fits X d t (spots (running text 0)) (y .fits), record { texts = refl; newRules = n .newRules; newEntries = n .newEntries; says = n .mean; rules = n .rules; entries = n .entries; names = y .rows })
     said (off c at t′) y m e = let z : _≡_ {A = ℕ} 0 1 = cc in absurd (omega arith)
 
-    taken-in : (o : Fed) → Tells X (length text) Start (stageFrom d) t (running text 0) o → (rs : List Rule) → IsRules text rs → Fits X d t (spots (running text 0)) → settled d text t o .result ≡ Ok tt
+    taken-in : (o : Fed) → Tells X (length text) Start (stageFrom d) t (running text 0) o → (rs : List Rule) → WrittenAs text rs → Fits X d t (spots (running text 0)) → settled d text t o .result ≡ Ok tt
     taken-in (on s t′) y rs i f = refl
     taken-in (off c at t′) y rs i f = absurd (no-fault X d t (running text 0) (length text) rs (i .ended) (i .derives) f c at (first-fault X d t (length text) (running text 0) c at y))
 
@@ -166,7 +174,16 @@ module _ (d : Counts) (text earlier : List ℕ) (t : Tables) (l : Limited d) whe
     turned-away (off c at t′) y f e =
         let g : f ≡ record { cause = c; text = d .texts; byte = at; line = lineOf text at } = cc in
         subst (λ v. Refuted d text earlier t v (settled d text t (off c at t′))) (sym g)
-        (record { first = first-fault X d t (length text) (running text 0) c at y; number = refl; line = refl; counts = refl; tables = refl })
+        (record { first = first-fault X d t (length text) (running text 0) c at y; text-number = refl; line = refl; counts = refl; tables = refl })
+
+    -- after the region's text, what is known is what is used in it
+    goes-on : d .texts ≡ 1 → take (d .names) (t .names) ≡ newNames (textsFor 0 earlier []) noneKnown (spots (running earlier 0)) → (o : Outcome)
+        → ((rs : List Rule) × WrittenAs text rs × Fits X d t (spots (running text 0)) × Means d text earlier t rs o)
+        → take (o .counts .names) (o .tables .names) ≡ newNames (textsFor 0 earlier []) noneKnown (spots (running earlier 0)) ++ newNames (textsFor 1 text earlier) (usedIn (spots (running earlier 0))) (spots (running text 0))
+    goes-on e f o m =
+        m .3 .names
+        ∙ (λ i. f i ++ newNames (textsFor (e i) text earlier) (knownIn (textsFor (e i) text earlier) (f i)) (spots (running text 0)))
+        ∙ ap (λ k. newNames (textsFor 0 earlier []) noneKnown (spots (running earlier 0)) ++ newNames (textsFor 1 text earlier) k (spots (running text 0))) (λ i c. known-is-used earlier text c i)
 
     says-new : (o : Fed) → Holds (New d t) o → settled d text t o .result ≡ Ok tt → OnlyNew d (settled d text t o .counts) t (settled d text t o .tables)
     says-new (on s t′) h e = record { names = h .names; rules = h .rules; entries = h .entries }
@@ -178,6 +195,7 @@ module _ (d : Counts) (text earlier : List ℕ) (t : Tables) (l : Limited d) whe
     granted = λ h. let z : _≡_ {A = ℕ} 0 1 = cc in absurd (omega arith);
     accepts = λ h. let z : _≡_ {A = ℕ} 0 1 = cc in absurd (omega arith);
     refuted = λ h. let z : _≡_ {A = ℕ} 0 1 = cc in absurd (omega arith);
+    onward = λ u f h. let z : _≡_ {A = ℕ} 0 1 = cc in absurd (omega arith);
     fresh = λ h. let z : _≡_ {A = ℕ} 0 1 = cc in absurd (omega arith);
   }
   accepted None e =
@@ -187,6 +205,7 @@ module _ (d : Counts) (text earlier : List ℕ) (t : Tables) (l : Limited d) whe
         granted = said r Ran (tells r) (means r);
         accepts = λ h. taken-in r Ran (tells r);
         refuted = λ h. turned-away r Ran (tells r);
+        onward = λ u f h. goes-on r u f (settled d text t Ran) (said r Ran (tells r) (means r) h);
         fresh = says-new r Ran (only-new d t X (length text) (running text 0) (r .names .1) (r .rules .1) (r .entries .1));
       }
 

@@ -21,7 +21,8 @@ use Rattle.tables.specs.Feed.{Stage, Tables, Texts, Fed, on, off, full, newRow
 use Rattle.tables.specs.Reading.{carry}
 use Rattle.tables.specs.Grammar.{Entry, entry, Head, headed, headless, Rule, rule}
 use Rattle.tables.proofs.Written.{writeEntry, writeBody, writeHead, writeRule, written}
-use Rattle.tables.specs.Meaning.{Ext, Finds, Codes, bare, code, HeadIs, named, missing, Says, nothing, also, rowsIn, Ruled}
+use Rattle.tables.specs.Meaning.{Finds, Codes, bare, code, HeadIs, named, missing, Says, nothing, also}
+use Rattle.tables.proofs.Ruled.{Ext, rowsIn, Ruled}
 use Rattle.tables.proofs.Finding.{ext-trans, finds-on, finds-new, codes-on, head-on}
 
 -- where reading goes on, Q holds

@@ -7,14 +7,13 @@ use native.Mathlib.Omega.{arith}
 use lib.Dec.{eqb, leb, ltb}
 use lib.ListN.{length, take, drop, length-drop}
 use borrow.Author.Tests.{lt-ltb, le-leb}
-use Rattle.std.specs.shelf.Text.{sameBytes}
-use Rattle.std.proofs.shelf.Equals.{sameBytes-decides}
 use Rattle.std.proofs.shelf.Tests.{cond-both}
 use Rattle.words.specs.Words.{Token, name, negation, arrow, comma, point, Reading, word, end, fault, nextWord}
 use Rattle.words.specs.Running.{Running, more, ended, wrong, onward, runningBy, running}
 use Rattle.words.proofs.Cut.{Cut, cut-from}
 use Rattle.words.proofs.Small.{inside-text}
-use Rattle.tables.specs.Names.{names, partOf, isName}
+use Rattle.tables.specs.Names.{sameName, names, partOf, isName}
+use Rattle.tables.proofs.Sameness.{same-self}
 use Rattle.tables.specs.Feed.{Texts, newRow}
 use Rattle.tables.specs.Grammar.{Spot, spot, spots, Entry, entry, Head, headed, headless, Rule, rule, IsEntry, plain, denied, IsBody, last, then, IsRule, fact, bar, whole, IsText, none, next}
 use Rattle.tables.specs.Draft.{textsFor}
@@ -26,7 +25,7 @@ pub record Named (x : Texts) (b : List ℕ) (k : ℕ) : Type 0 where
   pub part : partOf (newRow x b k) (x .region) (x .harbour) ≡ b
 
 pub own : (x : Texts) (b : List ℕ) (k : ℕ) → Named x b k → Own x b k
-own x b k n = λ i. n .names i && ((ap (λ l. sameBytes l b) (n .part) ∙ sameBytes-decides b b .1 refl) i)
+own x b k n = λ i. n .names i && ((ap (λ l. sameName l b) (n .part) ∙ same-self b) i)
 
 named : (text earlier b : List ℕ) (n k : ℕ) → Cut (drop k text) b → k < length text → Named (textsFor n text earlier) b k
 named text earlier b n k c h =

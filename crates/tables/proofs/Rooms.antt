@@ -25,7 +25,7 @@ use Rattle.tables.specs.Names.{found}
 use Rattle.tables.specs.Feed.{Stage, Tables, Texts, Fed, on, off, full, newRow, numberFrom, withNumber, numbered, headed, enteredAs, closed, feedIn, feed, finishedIn, finished}
 use Rattle.tables.specs.Reading.{stopOf, carry, run}
 use Rattle.tables.specs.Grammar.{Spot, spot, spots}
-use Rattle.tables.specs.Rules.{Ended, EndsAt}
+use Rattle.tables.specs.Beginnings.{Ended, EndsAt}
 use Rattle.tables.specs.Room.{knownIn, newNames, rulesIn, entriesIn, Within, NamesFit, RulesFit, EntriesFit}
 use Rattle.tables.proofs.Walks.{onto, also, walk}
 use Rattle.tables.proofs.Agrees.{Agrees, feed-agrees}
@@ -192,8 +192,8 @@ module _ (x : Texts) where
 
     -- a word that writes nothing
     quiet : (p q : Phase) (h : ℕ) (w : Spot) → ((known : List ℕ → Bool) (us : List Spot) → newNames x known us ≡ newNames x known (w ∷ us))
-      → ((us : List Spot) → rulesIn us ≡ rulesIn (w ∷ us)) → ((us : List Spot) → entriesIn (isStart q) us ≡ entriesIn (isStart p) (w ∷ us))
-      → Goes p s t w (record { phase = q; head = h; first = s .first; names = s .names; rules = s .rules; entries = s .entries }) t
+        → ((us : List Spot) → rulesIn us ≡ rulesIn (w ∷ us)) → ((us : List Spot) → entriesIn (isStart q) us ≡ entriesIn (isStart p) (w ∷ us))
+        → Goes p s t w (record { phase = q; head = h; first = s .first; names = s .names; rules = s .rules; entries = s .entries }) t
     quiet p q h w a b c = record {
       ahead = λ us. ap (λ l. rowsAt s t ++ l) (a (KnownAt s t) us);
       rules = λ us. ap (λ m. s .rules + m) (b us);
@@ -202,7 +202,7 @@ module _ (x : Texts) where
       rules-size = refl;
       entries-size = refl;
       ready = record { names = r .names; rules = r .rules; entries = r .entries };
-      }
+    }
 
     feed-steps : (p : Phase) (k : Token) (at : ℕ) → OwnSpot x k at → Stepped p s t (spot k at) at (feedIn p x k at s t)
     feed-steps Start (name b) at o = head-steps b at o

@@ -17,7 +17,7 @@ use Rattle.tables.specs.Feed as F
 use Rattle.tables.specs.Feed.{Stage, Tables, Texts, Fed, on, off, full, atPhase, Number, number, noRow, numberIn, withNumber, numbered, enteredAs, closed, feedIn, feed, finishedIn, finished}
 use Rattle.tables.specs.Reading.{carry, run}
 use Rattle.tables.specs.Grammar.{Spot, spot, spots, Entry, entry, Head, headed, headless, Rule, rule, IsEntry, plain, denied, IsBody, last, then, IsRule, fact, bar, whole, IsText, none, next}
-use Rattle.tables.specs.Rules.{Ended}
+use Rattle.tables.specs.Beginnings.{Ended}
 use Rattle.tables.proofs.Written.{writeEntry, writeBody, writeHead, writeRule, written}
 use Rattle.tables.proofs.Agrees.{Agrees, numbered-agrees, entered-agrees, closed-agrees}
 

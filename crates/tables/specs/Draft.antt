@@ -16,6 +16,7 @@ use Rattle.tables.specs.declared.Fault.{Fault}
 use Rattle.tables.specs.declared.Cause.{Cause}
 use Rattle.tables.specs.declared.Cause.the-variants.{LongText, ThirdText, ShortTable}
 use Rattle.tables.specs.declared.Phase.the-variants.{Start}
+use Rattle.tables.specs.Limits.{textMax, textsMax}
 use Rattle.tables.specs.Names.{blankName}
 use Rattle.tables.specs.Feed.{Stage, Tables, Texts, Fed, on, off}
 use Rattle.tables.specs.Reading.{run}
@@ -45,6 +46,7 @@ cleared n x xs = take n xs ++ replicate (length xs - n) x
 abbrev pub blankRule : RuleRow
 blankRule = record { head = 0; first = 0; count = 0 }
 
+-- all three tables so
 abbrev pub clearedTables : Counts → Tables → Tables
 clearedTables d t = record { names = cleared (d .names) blankName (t .names); rules = cleared (d .rules) blankRule (t .rules); entries = cleared (d .entries) 0 (t .entries) }
 
@@ -76,8 +78,8 @@ taken d text earlier t = settled d text t (run (textsFor (d .texts) text earlier
 -- why nothing is read
 abbrev pub refusalOf : Counts → List ℕ → Tables → Option Cause
 refusalOf d text t =
-    cond (ltb 65536 (length text)) (Some LongText)
-    (cond (leb 2 (d .texts)) (Some ThirdText)
+    cond (ltb textMax (length text)) (Some LongText)
+    (cond (leb textsMax (d .texts)) (Some ThirdText)
     (cond (short d t) (Some ShortTable) None))
 
 -- the text is read unless something speaks against it

@@ -1,5 +1,5 @@
 -- What reading means: which texts are accepted and what their rows say, and why and where a text is refused.
-use Prim.Native.Nat.{ℕ, _+_, _≤_}
+use Prim.Native.Nat.{ℕ, _+_}
 use mathlib.Core.Path.{_≡_}
 use mathlib.Core.Bool.{true}
 use mathlib.Core.List.{List, [], _∷_, _++_}
@@ -16,14 +16,14 @@ use Rattle.tables.specs.declared.RuleRow.{RuleRow}
 use Rattle.tables.specs.Feed.{Tables, Texts}
 use Rattle.tables.specs.Reading.{stopOf}
 use Rattle.tables.specs.Grammar.{Spot, spot, spots, Rule, IsText}
-use Rattle.tables.specs.Rules.{Ended, EndsAt, Begins}
+use Rattle.tables.specs.Beginnings.{Ended, EndsAt, Begins}
 use Rattle.tables.specs.Meaning.{Says}
 use Rattle.tables.specs.Only.{OnlyNew}
-use Rattle.tables.specs.Room.{knownIn, newNames, NamesFit, RulesFit, EntriesFit, Fits}
+use Rattle.tables.specs.Room.{knownIn, usedIn, noneKnown, newNames, NamesFit, RulesFit, EntriesFit, Fits}
 use Rattle.tables.specs.Draft.{Counts, Outcome, lineOf, clearedTables, refused, refusalOf, textsFor}
 
--- the text's words are rules
-pub record IsRules (text : List ℕ) (rs : List Rule) : Type 0 where
+-- the text is written as these rules: its words end with it, and the grammar derives them
+pub record WrittenAs (text : List ℕ) (rs : List Rule) : Type 0 where
   pub ended : Ended (running text 0)
   pub derives : IsText (spots (running text 0)) rs
 
@@ -59,28 +59,27 @@ module _ (x : Texts) (d : Counts) (t : Tables) where
     -- what comes after the words is no word
     at-no-word : (f : Words.Fault) → EndsAt f ws → Begins (spots ws) → Fits x d t (spots ws) → FirstFault ws size (stopOf f .cause) (stopOf f .at)
 
--- a draft within its limits
-pub record Limited (d : Counts) : Type 0 where
-  pub names : d .names ≤ 512
-  pub rules : d .rules ≤ 2048
-  pub entries : d .entries ≤ 8192
-
 -- a text that was begun and refused: the fault is the first, the draft is as before, and every row past its counts is zero
 pub record Refuted (d : Counts) (text earlier : List ℕ) (t : Tables) (f : Fault) (o : Outcome) : Type 0 where
   pub first : FirstFault (textsFor (d .texts) text earlier) d t (running text 0) (length text) (f .cause) (f .byte)
-  pub number : f .text ≡ d .texts
+  pub text-number : f .text ≡ d .texts
   pub line : f .line ≡ lineOf text (f .byte)
   pub counts : o .counts ≡ d
   pub tables : o .tables ≡ clearedTables d t
 
+-- the whole law of reading: the draft d, the text, the earlier text and the tables t lead to the outcome o
 pub record Reads (d : Counts) (text earlier : List ℕ) (t : Tables) (o : Outcome) : Type 0 where
   -- where something speaks against the text before it is read, nothing changes
   pub unread : (c : Cause) → refusalOf d text t ≡ Some c → o ≡ refused c d t
   -- what is accepted is rules that have their rows, and the tables then say them
-  pub granted : o .result ≡ Ok tt → (rs : List Rule) × IsRules text rs × Fits (textsFor (d .texts) text earlier) d t (spots (running text 0)) × Means d text earlier t rs o
+  pub granted : o .result ≡ Ok tt → (rs : List Rule) × WrittenAs text rs × Fits (textsFor (d .texts) text earlier) d t (spots (running text 0)) × Means d text earlier t rs o
   -- rules that have their rows are accepted
-  pub accepts : refusalOf d text t ≡ None → (rs : List Rule) → IsRules text rs → Fits (textsFor (d .texts) text earlier) d t (spots (running text 0)) → o .result ≡ Ok tt
+  pub accepts : refusalOf d text t ≡ None → (rs : List Rule) → WrittenAs text rs → Fits (textsFor (d .texts) text earlier) d t (spots (running text 0)) → o .result ≡ Ok tt
   -- any other text is refused at its first fault
   pub refuted : refusalOf d text t ≡ None → (f : Fault) → o .result ≡ Err f → Refuted d text earlier t f o
+  -- after a region's text that was read first, the harbour's new names are those that are not used in it: numbers go on in the order of first use
+  pub onward : d .texts ≡ 1 → take (d .names) (t .names) ≡ newNames (textsFor 0 earlier []) noneKnown (spots (running earlier 0)) → o .result ≡ Ok tt
+      → take (o .counts .names) (o .tables .names)
+      ≡ newNames (textsFor 0 earlier []) noneKnown (spots (running earlier 0)) ++ newNames (textsFor 1 text earlier) (usedIn (spots (running earlier 0))) (spots (running text 0))
   -- on success only newly counted rows are written
   pub fresh : o .result ≡ Ok tt → OnlyNew d (o .counts) t (o .tables)

@@ -1,10 +1,12 @@
+-- Rule texts: their grammar, the tables that reading fills, and the law of reading.
+pub mod Limits
 pub mod Numbers
 pub mod Names
 pub mod Feed
 pub mod Reading
 pub mod Draft
 pub mod Grammar
-pub mod Rules
+pub mod Beginnings
 pub mod Only
 pub mod Meaning
 pub mod Room

@@ -1,13 +1,14 @@
 -- What the rows of the tables say, by the names that are found in them.
-use Prim.Native.Nat.{ℕ, _+_, _*_, _≤_}
+use Prim.Native.Nat.{ℕ, _+_, _*_}
 use mathlib.Core.Path.{_≡_}
 use mathlib.Core.List.{List, [], _∷_, _++_}
-use lib.ListN.{length, take}
-use Rattle.std.specs.declared.option.Option.the-variants.{Some, None}
+use lib.ListN.{length}
+use Rattle.std.specs.declared.option.Option.the-variants.{Some}
 use Rattle.tables.specs.declared.NameRow.{NameRow}
 use Rattle.tables.specs.declared.RuleRow.{RuleRow}
+use Rattle.tables.specs.Limits.{noHead}
 use Rattle.tables.specs.Names.{found}
-use Rattle.tables.specs.Feed.{Texts, Stage, Tables}
+use Rattle.tables.specs.Feed.{Texts}
 use Rattle.tables.specs.Grammar.{Entry, entry, Head, headed, headless, Rule, rule}
 
 -- finding the name gives the number
@@ -19,9 +20,10 @@ pub data Codes (x : Texts) (rows : List NameRow) : List Entry → List ℕ → T
   bare : Codes x rows [] []
   code : (sign : ℕ) (b : List ℕ) (k n : ℕ) (es : List Entry) (cs : List ℕ) → Finds x rows b n → Codes x rows es cs → Codes x rows (entry sign b k ∷ es) ((2 * n + sign) ∷ cs)
 
+-- the head's number, or that of none
 pub data HeadIs (x : Texts) (rows : List NameRow) : Head → ℕ → Type 0 where
   named : (b : List ℕ) (k n : ℕ) → Finds x rows b n → HeadIs x rows (headed b k) n
-  missing : HeadIs x rows headless 65535
+  missing : HeadIs x rows headless noHead
 
 -- rules, and the rule rows and the entries that say them; a run begins where the last ended
 pub data Says (x : Texts) (rows : List NameRow) : List Rule → ℕ → List RuleRow → List ℕ → Type 0 where
@@ -29,24 +31,3 @@ pub data Says (x : Texts) (rows : List NameRow) : List Rule → ℕ → List Rul
   also : (h : Head) (es : List Entry) (j : ℕ) (rs : List Rule) (first n : ℕ) (cs : List ℕ) (rules : List RuleRow) (entries : List ℕ)
       → HeadIs x rows h n → Codes x rows es cs → Says x rows rs (first + length cs) rules entries
       → Says x rows (rule h es j ∷ rs) first (record { head = n; first = first; count = length cs } ∷ rules) (cs ++ entries)
-
--- ys is xs and more
-pub record Ext {X : Type 0} (xs ys : List X) : Type 0 where
-  pub rest : List X
-  pub is : ys ≡ xs ++ rest
-
--- the rows of the names that are counted
-abbrev pub rowsIn : Stage → Tables → List NameRow
-rowsIn s t = take (s .names) (t .names)
-
--- rules rs were written between s and t and s′ and t′
-pub record Ruled (x : Texts) (rs : List Rule) (s : Stage) (t : Tables) (s′ : Stage) (t′ : Tables) : Type 0 where
-  pub newRules : List RuleRow
-  pub newEntries : List ℕ
-  pub mean : Says x (rowsIn s′ t′) rs (s .entries) newRules newEntries
-  pub rules : take (s′ .rules) (t′ .rules) ≡ take (s .rules) (t .rules) ++ newRules
-  pub entries : take (s′ .entries) (t′ .entries) ≡ take (s .entries) (t .entries) ++ newEntries
-  pub count : s′ .entries ≡ s .entries + length newEntries
-  pub ext : Ext (rowsIn s t) (rowsIn s′ t′)
-  pub room : s′ .names ≤ length (t′ .names)
-  pub first : s′ .first ≡ s′ .entries

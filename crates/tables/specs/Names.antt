@@ -37,11 +37,11 @@ nameOf r region harbour = cond (names r region harbour) (Some (partOf r region h
 abbrev pub isName : List ℕ → List ℕ → List ℕ → NameRow → Bool
 isName region harbour bytes r = names r region harbour && sameName (partOf r region harbour) bytes
 
--- the lowest row, from number n on, that names these bytes
+-- the number of the lowest row that names these bytes, where the rows are numbered from n
 abbrev pub found : List ℕ → List ℕ → List ℕ → ℕ → List NameRow → Option ℕ
 found region harbour bytes n [] = None
 found region harbour bytes n (r ∷ rs) = cond (isName region harbour bytes r) (Some n) (found region harbour bytes (n + 1) rs)
 
 -- the name of statement n among the first `count` rows, or nothing
-abbrev pub nameAt : List ℕ → List ℕ → ℕ → ℕ → List NameRow → Option (List ℕ)
-nameAt region harbour n count rows = cond (ltb n count && ltb n (length rows)) (nameOf (getD rows n blankName) region harbour) None
+abbrev pub statementName : List ℕ → List ℕ → ℕ → ℕ → List NameRow → Option (List ℕ)
+statementName region harbour n count rows = cond (ltb n count && ltb n (length rows)) (nameOf (getD rows n blankName) region harbour) None

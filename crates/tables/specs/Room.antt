@@ -6,6 +6,7 @@ use lib.ListN.{length, take}
 use Rattle.std.specs.Options.{isSome}
 use Rattle.words.specs.Words.{Token, name, negation, arrow, comma, point}
 use Rattle.tables.specs.declared.NameRow.{NameRow}
+use Rattle.tables.specs.Limits.{namesMax, rulesMax, entriesMax}
 use Rattle.tables.specs.Names.{sameName, found}
 use Rattle.tables.specs.Feed.{Tables, Texts, newRow}
 use Rattle.tables.specs.Grammar.{Spot, spot}
@@ -15,7 +16,7 @@ use Rattle.tables.specs.Draft.{Counts}
 abbrev pub knownIn : Texts → List NameRow → List ℕ → Bool
 knownIn x rows b = isSome (found (x .region) (x .harbour) b 0 rows)
 
--- the name c is known, or is b
+-- the name c is known, or the same as b
 abbrev pub alsoKnown : List ℕ → (List ℕ → Bool) → List ℕ → Bool
 alsoKnown b known c = known c || sameName b c
 
@@ -27,6 +28,19 @@ newNames x known (spot negation k ∷ ws) = newNames x known ws
 newNames x known (spot arrow k ∷ ws) = newNames x known ws
 newNames x known (spot comma k ∷ ws) = newNames x known ws
 newNames x known (spot point k ∷ ws) = newNames x known ws
+
+-- the name is used in these words
+abbrev pub usedIn : List Spot → List ℕ → Bool
+usedIn [] c = false
+usedIn (spot (name b) k ∷ ws) c = sameName b c || usedIn ws c
+usedIn (spot negation k ∷ ws) c = usedIn ws c
+usedIn (spot arrow k ∷ ws) c = usedIn ws c
+usedIn (spot comma k ∷ ws) c = usedIn ws c
+usedIn (spot point k ∷ ws) c = usedIn ws c
+
+-- no name is known
+abbrev pub noneKnown : List ℕ → Bool
+noneKnown c = false
 
 -- how many rules end in these words
 abbrev pub rulesIn : List Spot → ℕ
@@ -52,15 +66,15 @@ Within limit size n = (n ≤ limit) × (n ≤ size)
 
 -- the names known and counted so far and those used first in the words have rows in a table of that size
 abbrev pub NamesFit : Texts → (List ℕ → Bool) → ℕ → ℕ → List Spot → Type 0
-NamesFit x known size n us = Within 512 size (n + length (newNames x known us))
+NamesFit x known size n us = Within namesMax size (n + length (newNames x known us))
 
 -- the rules counted so far and those of the words have rows
 abbrev pub RulesFit : ℕ → ℕ → List Spot → Type 0
-RulesFit size n us = Within 2048 size (n + rulesIn us)
+RulesFit size n us = Within rulesMax size (n + rulesIn us)
 
 -- the entries counted so far and those of the words have rows
 abbrev pub EntriesFit : Bool → ℕ → ℕ → List Spot → Type 0
-EntriesFit start size n us = Within 8192 size (n + entriesIn start us)
+EntriesFit start size n us = Within entriesMax size (n + entriesIn start us)
 
 -- what the words of a text bring has rows after those that a draft counts
 pub record Fits (x : Texts) (d : Counts) (t : Tables) (us : List Spot) : Type 0 where

@@ -23,7 +23,7 @@ stageOf p = record { phase = p .phase; head = p .head; first = p .first; names =
 
 -- the two texts, and the number of the one that is read
 abbrev pub textsOf : Reading → Texts
-textsOf r = record { region = r .region .now; harbour = r .harbour .now; mark = r .number }
+textsOf r = record { region = r .texts .region .now; harbour = r .texts .harbour .now; mark = r .number }
 
 -- what a word led to
 abbrev pub fed : Result (Unit {0}) Stop → Stage → Tables → Fed

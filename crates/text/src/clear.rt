@@ -5,7 +5,7 @@ ghost use lib.ListN.{length};
 ghost use Rattle.tables.specs.Draft.{cleared};
 
 // Every row from `from` on becomes `blank`.
-pub fn clear<T: Copy>(rows: &mut [T], from: usize, blank: T)
+pub(crate) fn clear<T: Copy>(rows: &mut [T], from: usize, blank: T)
     requires { ⌜ from ≤ length (now rows) ⌝ }
     ensures { λ _. ⌜ now (rows .exit) ≡ cleared from blank (now (rows .entry)) ⌝ }
 {

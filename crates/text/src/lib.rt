@@ -16,3 +16,5 @@ pub use tables::Fault;
 pub use tables::NameRow;
 pub use tables::RuleRow;
 pub use texts::Texts;
+pub use words::Reader;
+pub use words::Word;

@@ -6,7 +6,7 @@ ghost use Rattle.tables.specs.Draft.{lineOf};
 use words::ends_line;
 
 // 1 plus the line ends before the place.
-pub fn line_of(text: &[u8], at: usize) -> usize
+pub(crate) fn line_of(text: &[u8], at: usize) -> usize
     requires { ⌜ length (now text) ≤ 65536 ⌝ }
     ensures { λ r. ⌜ r ≡ lineOf (now (text .entry)) at ⌝ }
 {

@@ -3,13 +3,11 @@ ghost use mathlib.Core.Path.{_≡_};
 ghost use Prim.Native.Nat.{ℕ, _+_, _<_, _≤_};
 ghost use lib.ListN.{length, take};
 ghost use Rattle.std.specs.Options.{Cases as BySome};
-ghost use Rattle.tables.specs.Names.{sameName, nameOf, nameAt, isName, found};
+ghost use Rattle.tables.specs.Names.{sameName, nameOf, statementName, isName, found};
 ghost use Rattle.text.specs.View.{bytesOf};
+use crate::texts::TEXTS_MAX;
 use crate::texts::Texts;
 use tables::NameRow;
-
-// The number of texts of a draft.
-const TEXTS: u8 = 2;
 
 // Whether the two names are the same.
 fn same_name(a: &[u8], b: &[u8]) -> bool
@@ -29,7 +27,7 @@ fn part<'a>(row: NameRow, texts: Texts<'a>) -> Option<&'a [u8]>
     };
     let first = row.first as usize;
     let end = first + row.size as usize;
-    if row.text < TEXTS && row.size > 0 && end <= text.len() {
+    if row.text < TEXTS_MAX && row.size > 0 && end <= text.len() {
         Some(&text[first..end])
     } else {
         None
@@ -46,7 +44,7 @@ fn is_named(row: NameRow, texts: Texts, name: &[u8]) -> bool
 }
 
 // The lowest row that has the name.
-pub fn first_named(rows: &[NameRow], texts: Texts, name: &[u8]) -> Option<usize>
+pub(crate) fn first_named(rows: &[NameRow], texts: Texts, name: &[u8]) -> Option<usize>
     ensures finds { λ r. ⌜ r ≡ found (now (texts .entry .region)) (now (texts .entry .harbour)) (now (name .entry)) 0 (now (rows .entry)) ⌝ }
     ensures below { λ r. ⌜ BySome r (Unit {0}) (λ n. n < length (now (rows .entry))) ⌝ }
 {
@@ -60,7 +58,8 @@ pub fn first_named(rows: &[NameRow], texts: Texts, name: &[u8]) -> Option<usize>
 
 // The statement of that name among the first `count` rows: the lowest, or nothing.
 pub fn find(name: &[u8], count: usize, rows: &[NameRow], texts: Texts) -> Option<usize>
-    ensures { λ r. ⌜ r ≡ found (now (texts .entry .region)) (now (texts .entry .harbour)) (now (name .entry)) 0 (take count (now (rows .entry))) ⌝ }
+    ensures finds { λ r. ⌜ r ≡ found (now (texts .entry .region)) (now (texts .entry .harbour)) (now (name .entry)) 0 (take count (now (rows .entry))) ⌝ }
+    ensures below { λ r. ⌜ BySome r (Unit {0}) (λ n. (n < count) × (n < length (now (rows .entry)))) ⌝ }
 {
     if count < rows.len() {
         first_named(&rows[0..count], texts, name)
@@ -76,7 +75,7 @@ pub fn name_of<'a>(
     rows: &[NameRow],
     texts: Texts<'a>,
 ) -> Option<&'a [u8]>
-    ensures { λ r. ⌜ bytesOf r ≡ nameAt (now (texts .entry .region)) (now (texts .entry .harbour)) statement count (now (rows .entry)) ⌝ }
+    ensures { λ r. ⌜ bytesOf r ≡ statementName (now (texts .entry .region)) (now (texts .entry .harbour)) statement count (now (rows .entry)) ⌝ }
 {
     if statement < count && statement < rows.len() {
         part(rows[statement], texts)

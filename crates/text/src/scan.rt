@@ -14,7 +14,7 @@ use tables::StopFromFault;
 use words::Reader;
 
 // Reads word by word up to the end or the first fault.
-pub fn scan(
+pub(crate) fn scan(
     text: &[u8],
     reading: Reading,
     progress: &mut Progress,

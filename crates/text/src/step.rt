@@ -10,7 +10,6 @@ ghost use Rattle.text.specs.View.{numberGot, textsOf, fed, stageOf};
 use crate::names::first_named;
 use crate::progress::Progress;
 use crate::texts::Reading;
-use crate::texts::Texts;
 use tables::Cause;
 use tables::NameRow;
 use tables::Phase;
@@ -42,11 +41,7 @@ fn number(
     ensures got { λ r. ⌜ numberGot r (now (names .exit)) ≡ numberIn (textsOf (reading .entry)) (now (bytes .entry)) at count (now (names .entry)) ⌝ }
     ensures below { λ r. ⌜ BySome r (Unit {0}) (λ p. (p .0 < 512) × (p .1 ≤ 512) × (p .1 ≤ length (now (names .exit)))) ⌝ }
 {
-    let texts = Texts {
-        region: reading.region,
-        harbour: reading.harbour,
-    };
-    if let Some(n) = first_named(&names[0..count], texts, bytes) {
+    if let Some(n) = first_named(&names[0..count], reading.texts, bytes) {
         return Some((n as u16, count));
     }
     if count >= NAMES_MAX || count >= names.len() {
@@ -158,7 +153,7 @@ impl Progress {
     }
 
     // One word.
-    pub fn step(
+    pub(crate) fn step(
         &mut self,
         word: Word,
         reading: Reading,
@@ -205,7 +200,7 @@ impl Progress {
     }
 
     // The end of the text: within a rule it may not come.
-    pub fn finish(&self, at: usize) -> Result<(), Stop>
+    pub(crate) fn finish(&self, at: usize) -> Result<(), Stop>
         ensures { λ r. ⌜ ((t : Tables) → fed r (stageOf (now (self .entry))) t ≡ finished at (stageOf (now (self .entry))) t) ⌝ }
     {
         match self.phase {

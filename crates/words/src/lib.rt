@@ -4,7 +4,10 @@ ghost use mathlib.Core.Bool.{true, false};
 ghost use Rattle.std.specs.Options.{Cases as BySome};
 ghost use Prim.Native.Nat.{ℕ, _+_, _<_, _≤_};
 ghost use denote.Ref.{now};
+ghost use lib.Chars.{codes};
+ghost use lib.Dec.{ltb};
 ghost use lib.ListN.{length, drop, take};
+ghost use Rattle.std.specs.shelf.Text.{sameBytes};
 ghost use Rattle.std.specs.shelf.Lists.{leading};
 ghost use Rattle.words.specs.Words.{tokenOf, placeOf, reading, isBlank, isNameByte, isLetter, isArrow, blanks, endsLine, nameToken, nameAt, nextWord};
 
@@ -28,7 +31,7 @@ pub enum Fault {
     LongName { at: usize },
 }
 
-// Goes over a lent text, word by word; `position` is the place after the last word.
+// Goes over a lent text, word by word; `position` is where the reading goes on, or the place of a fault.
 #[derive(Drop)]
 pub struct Reader<'a> {
     text: &'a [u8],
@@ -67,7 +70,7 @@ fn is_blank(b: u8) -> bool
 fn is_name_byte(b: u8) -> bool
     ensures { λ r. ⌜ r ≡ isNameByte b ⌝ }
 {
-    (b >= b'a' && b <= b'z') || (b >= b'0' && b <= b'9') || b == b'_'
+    is_letter(b) || (b >= b'0' && b <= b'9') || b == b'_'
 }
 
 // The place of the first byte from `from` on that is neither blank nor in a comment, or the end.
@@ -118,10 +121,24 @@ fn name_length(s: &[u8]) -> usize
     n
 }
 
+// Whether a name of n bytes is too long.
+fn is_too_long(n: usize) -> bool
+    ensures { λ r. ⌜ r ≡ ltb 32 n ⌝ }
+{
+    n > NAME_MAX
+}
+
+// Whether the bytes are the mark that denies, and no name.
+fn is_not(bytes: &[u8]) -> bool
+    ensures { λ r. ⌜ r ≡ sameBytes (now (bytes .entry)) (codes "not") ⌝ }
+{
+    bytes == b"not"
+}
+
 fn name_word<'a>(bytes: &'a [u8], at: usize) -> Word<'a>
     ensures { λ r. ⌜ tokenOf r ≡ nameToken (now (bytes .entry)) ⌝ ∗ ⌜ placeOf r ≡ at ⌝ }
 {
-    if bytes == b"not" {
+    if is_not(bytes) {
         Word::Not { at }
     } else {
         Word::Name { bytes, at }
@@ -144,7 +161,7 @@ impl<'a> Reader<'a> {
         let at = self.position;
         let rest = &text[at..];
         let n = name_length(rest);
-        if n > NAME_MAX {
+        if is_too_long(n) {
             return Err(Fault::LongName { at });
         }
         self.position = at + n;

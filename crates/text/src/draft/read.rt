@@ -13,6 +13,8 @@ use crate::lines::line_of;
 use crate::progress::Progress;
 use crate::scan::scan;
 use crate::texts::Reading;
+use crate::texts::TEXTS_MAX;
+use crate::texts::Texts;
 use tables::Cause;
 use tables::Fault;
 use tables::NameRow;
@@ -21,8 +23,6 @@ use tables::RuleRow;
 use tables::Stop;
 
 const TEXT_MAX: usize = 65536;
-
-const TEXTS_MAX: u8 = 2;
 
 const REGION: u8 = 0;
 
@@ -34,14 +34,18 @@ fn reading<'a>(texts: u8, text: &'a [u8], earlier: &'a [u8]) -> Reading<'a>
 {
     if texts == 0 {
         Reading {
-            region: text,
-            harbour: &text[0..0],
+            texts: Texts {
+                region: text,
+                harbour: &text[0..0],
+            },
             number: REGION,
         }
     } else {
         Reading {
-            region: earlier,
-            harbour: text,
+            texts: Texts {
+                region: earlier,
+                harbour: text,
+            },
             number: HARBOUR,
         }
     }
@@ -177,7 +181,7 @@ impl Draft {
         }
     }
 
-    // Reads one text more, the region's and then the harbour's; `earlier` is the region's text again. It is read whole, or a fault says why not and where.
+    // Reads one text more, the region's and then the harbour's; `earlier` is the region's text again, and is not looked at where the text is the region's. It is read whole, or a fault says why not and where.
     pub fn read<'a>(
         &mut self,
         text: &'a [u8],
