@@ -1,0 +1,2 @@
+-- Lemmas on the group of one statement.
+pub mod Marking

@@ -1,0 +1,2 @@
+-- Statements that hold in every plan.
+pub mod Certain

@@ -1,0 +1,3 @@
+-- Lemmas that the tests on bytes share.
+pub mod Split
+pub mod Causes
