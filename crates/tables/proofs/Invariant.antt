@@ -10,7 +10,7 @@ use Rattle.std.specs.declared.option.Option.the-variants.{Some, None}
 use Rattle.words.specs.Words.{Token, name, negation, arrow, comma, point}
 use Rattle.words.specs.Running.{Running, more, ended, wrong}
 use Rattle.tables.specs.declared.NameRow.{NameRow}
-use Rattle.tables.specs.declared.RuleRow.{RuleRow}
+use Rattle.rulebook.specs.declared.row.RuleRow.{RuleRow}
 use Rattle.tables.specs.declared.Phase.{Phase}
 use Rattle.tables.specs.declared.Phase.the-variants.{Start, AfterHead, WantEntry, WantName, AfterEntry}
 use Rattle.tables.specs.Names.{found}

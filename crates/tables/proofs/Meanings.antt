@@ -14,7 +14,7 @@ use Rattle.std.proofs.shelf.Tests.{cond-both, or-parts}
 use Rattle.std.specs.declared.option.Option.{Option}
 use Rattle.std.specs.declared.option.Option.the-variants.{Some, None}
 use Rattle.tables.specs.declared.NameRow.{NameRow}
-use Rattle.tables.specs.declared.RuleRow.{RuleRow}
+use Rattle.rulebook.specs.declared.row.RuleRow.{RuleRow}
 use Rattle.tables.specs.Names.{isName, found}
 use Rattle.tables.specs.Feed as F
 use Rattle.tables.specs.Feed.{Stage, Tables, Texts, Fed, on, off, full, newRow, numberFrom, withNumber, numbered, enteredAs, closed}

@@ -4,7 +4,7 @@ use mathlib.Core.Path.{_≡_}
 use mathlib.Core.List.{List, _++_}
 use lib.ListN.{length, take}
 use Rattle.tables.specs.declared.NameRow.{NameRow}
-use Rattle.tables.specs.declared.RuleRow.{RuleRow}
+use Rattle.rulebook.specs.declared.row.RuleRow.{RuleRow}
 use Rattle.tables.specs.Feed.{Texts, Stage, Tables}
 use Rattle.tables.specs.Grammar.{Rule}
 use Rattle.tables.specs.Meaning.{Says}

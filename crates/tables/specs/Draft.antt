@@ -11,12 +11,13 @@ use Rattle.std.specs.declared.result.Result.{Result}
 use Rattle.std.specs.declared.result.Result.the-variants.{Ok, Err}
 use Rattle.words.specs.Words.{endsLine}
 use Rattle.words.specs.Running.{running}
-use Rattle.tables.specs.declared.RuleRow.{RuleRow}
+use Rattle.rulebook.specs.declared.row.RuleRow.{RuleRow}
 use Rattle.tables.specs.declared.Fault.{Fault}
 use Rattle.tables.specs.declared.Cause.{Cause}
 use Rattle.tables.specs.declared.Cause.the-variants.{LongText, ThirdText, ShortTable}
 use Rattle.tables.specs.declared.Phase.the-variants.{Start}
 use Rattle.tables.specs.Limits.{textMax, textsMax}
+use Rattle.rulebook.specs.Rows.{blank}
 use Rattle.tables.specs.Names.{blankName}
 use Rattle.tables.specs.Feed.{Stage, Tables, Texts, Fed, on, off}
 use Rattle.tables.specs.Reading.{run}
@@ -42,13 +43,9 @@ lineOf text at = 1 + countBy endsLine (take at text)
 abbrev pub cleared : {X : Type 0} → ℕ → X → List X → List X
 cleared n x xs = take n xs ++ replicate (length xs - n) x
 
--- a row of zeros
-abbrev pub blankRule : RuleRow
-blankRule = record { head = 0; first = 0; count = 0 }
-
 -- all three tables so
 abbrev pub clearedTables : Counts → Tables → Tables
-clearedTables d t = record { names = cleared (d .names) blankName (t .names); rules = cleared (d .rules) blankRule (t .rules); entries = cleared (d .entries) 0 (t .entries) }
+clearedTables d t = record { names = cleared (d .names) blankName (t .names); rules = cleared (d .rules) blank (t .rules); entries = cleared (d .entries) 0 (t .entries) }
 
 -- a table is shorter than its count
 abbrev pub short : Counts → Tables → Bool

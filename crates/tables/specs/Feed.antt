@@ -8,7 +8,7 @@ use Rattle.std.specs.declared.option.Option.{Option}
 use Rattle.std.specs.declared.option.Option.the-variants.{Some, None}
 use Rattle.words.specs.Words.{Token, name, negation, arrow, comma, point}
 use Rattle.tables.specs.declared.NameRow.{NameRow}
-use Rattle.tables.specs.declared.RuleRow.{RuleRow}
+use Rattle.rulebook.specs.declared.row.RuleRow.{RuleRow}
 use Rattle.tables.specs.declared.Cause.{Cause}
 use Rattle.tables.specs.declared.Cause.the-variants.{OutOfPlace, NoNameRow, NoEntryRow, NoRuleRow}
 use Rattle.tables.specs.declared.Phase.{Phase}

@@ -12,7 +12,7 @@ use Rattle.words.specs.declared.Fault as Words
 use Rattle.tables.specs.declared.Fault.{Fault}
 use Rattle.tables.specs.declared.Cause.{Cause}
 use Rattle.tables.specs.declared.Cause.the-variants.{OutOfPlace, NoNameRow, NoEntryRow, NoRuleRow}
-use Rattle.tables.specs.declared.RuleRow.{RuleRow}
+use Rattle.rulebook.specs.declared.row.RuleRow.{RuleRow}
 use Rattle.tables.specs.Feed.{Tables, Texts}
 use Rattle.tables.specs.Reading.{stopOf}
 use Rattle.tables.specs.Grammar.{Spot, spot, spots, Rule, IsText}

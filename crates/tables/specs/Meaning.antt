@@ -5,7 +5,7 @@ use mathlib.Core.List.{List, [], _∷_, _++_}
 use lib.ListN.{length}
 use Rattle.std.specs.declared.option.Option.the-variants.{Some}
 use Rattle.tables.specs.declared.NameRow.{NameRow}
-use Rattle.tables.specs.declared.RuleRow.{RuleRow}
+use Rattle.rulebook.specs.declared.row.RuleRow.{RuleRow}
 use Rattle.tables.specs.Limits.{noHead}
 use Rattle.tables.specs.Names.{found}
 use Rattle.tables.specs.Feed.{Texts}

@@ -2,6 +2,7 @@
 ghost use mathlib.Core.Path.{_≡_};
 ghost use Rattle.tables.specs.Numbers.{numberOf};
 ghost use Rattle.tables.specs.Reading.{stopOf};
+pub use rulebook::row::RuleRow;
 
 // Where the name of a statement stands: its text (0 the region's, 1 the harbour's), its first byte and how many bytes.
 #[derive(Clone, Copy)]
@@ -16,22 +17,6 @@ impl NameRow {
         text: 0,
         first: 0,
         size: 0,
-    };
-}
-
-// A rule: the statement that is its head, or 65,535 for none, and the run of its entries.
-#[derive(Clone, Copy)]
-pub struct RuleRow {
-    pub head: u16,
-    pub first: u16,
-    pub count: u16,
-}
-
-impl RuleRow {
-    pub const EMPTY: RuleRow = RuleRow {
-        head: 0,
-        first: 0,
-        count: 0,
     };
 }
 

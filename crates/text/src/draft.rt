@@ -2,6 +2,7 @@
 ghost use Prim.Native.Nat.{ℕ, _≤_};
 
 mod read;
+pub mod seal;
 
 // What has been read: the texts taken, and the counts of names, rules and entries. Their rows stand in the lent tables.
 #[derive(Drop)]

@@ -9,6 +9,7 @@ mod step;
 mod texts;
 
 pub use draft::Draft;
+pub use draft::seal::Unsealed;
 pub use names::find;
 pub use names::name_of;
 pub use tables::Cause;

@@ -22,8 +22,6 @@ const NAMES_MAX: usize = 512;
 const RULES_MAX: usize = 2048;
 
 const ENTRIES_MAX: usize = 8192;
-// The head of a rule that has none.
-const NO_HEAD: u16 = 65535;
 // What the code of an entry has on top of twice its statement.
 const PLAIN: u16 = 0;
 
@@ -168,7 +166,7 @@ impl Progress {
         match (self.phase, word) {
             (Phase::Start, Word::Name { bytes, at }) => self.take_head(bytes, at, reading, names),
             (Phase::Start, Word::Arrow { .. }) => {
-                self.head = NO_HEAD;
+                self.head = RuleRow::NO_HEAD;
                 self.go_to(Phase::WantEntry)
             }
             (Phase::AfterHead, Word::Arrow { .. }) | (Phase::AfterEntry, Word::Comma { .. }) =>

@@ -3,7 +3,8 @@ ghost use mathlib.Core.Path.{_≡_};
 ghost use Prim.Native.Nat.{ℕ, _+_, _<_, _≤_};
 ghost use lib.ListN.{length};
 ghost use Rattle.tables.specs.Law.{Reads};
-ghost use Rattle.tables.specs.Draft.{Counts, Outcome, blankRule, cleared, lineOf, textsFor, refusalOf, taken, readOf};
+ghost use Rattle.tables.specs.Draft.{Counts, Outcome, cleared, lineOf, textsFor, refusalOf, taken, readOf};
+ghost use Rattle.rulebook.specs.Rows.{blank};
 ghost use Rattle.tables.specs.Names.{blankName};
 ghost use Rattle.text.specs.View.{textsOf};
 ghost use Rattle.text.specs.Counted.{countsOf};
@@ -137,7 +138,7 @@ impl Draft {
         requires { ⌜ length (now text) ≤ 65536 ⌝ ∗ ⌜ now self .names ≤ length (now names) ⌝ ∗ ⌜ now self .rules ≤ length (now rules) ⌝ ∗ ⌜ now self .entries ≤ length (now entries) ⌝ }
         ensures fault { λ r. ⌜ r ≡ (record { cause = stop .cause; text = now (self .entry) .texts; byte = stop .at; line = lineOf (now (text .entry)) (stop .at) }) ⌝ }
         ensures names { λ _. ⌜ now (names .exit) ≡ cleared (now (self .entry) .names) blankName (now (names .entry)) ⌝ }
-        ensures rules { λ _. ⌜ now (rules .exit) ≡ cleared (now (self .entry) .rules) blankRule (now (rules .entry)) ⌝ }
+        ensures rules { λ _. ⌜ now (rules .exit) ≡ cleared (now (self .entry) .rules) blank (now (rules .entry)) ⌝ }
         ensures entries { λ _. ⌜ now (entries .exit) ≡ cleared (now (self .entry) .entries) 0 (now (entries .entry)) ⌝ }
     {
         clear(names, self.names, NameRow::EMPTY);

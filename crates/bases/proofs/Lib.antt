@@ -1,0 +1,3 @@
+pub mod Converting
+pub mod Slicing
+pub mod Extending

@@ -1,0 +1,4 @@
+-- The rulebook base.
+pub mod Bodiless
+pub mod Sealed
+pub mod ByRules

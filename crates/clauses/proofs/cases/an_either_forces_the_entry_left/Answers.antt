@@ -1,0 +1,7 @@
+use mathlib.Core.Path.{refl}
+use Rattle.closing.specs.Sets.{byteOf}
+use Rattle.clauses.proofs.cases.an_either_forces_the_entry_left.Needs as need
+
+pub returns : need.returns
+unfolding byteOf
+returns c = (refl, refl)

@@ -1,0 +1,2 @@
+-- Lemmas of the narrowed base.
+pub mod Narrowing

@@ -1,0 +1,3 @@
+-- Rows of rules, and what sealing them does.
+pub mod Rows
+pub mod Sealing

@@ -1,0 +1,2 @@
+-- From the first plan that meets the group to the first that serves.
+pub mod Asking

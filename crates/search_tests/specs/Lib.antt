@@ -1,0 +1,3 @@
+-- A small base for tests: the plans in which some statement holds.
+pub mod SomeHolds
+pub mod Laws

@@ -1,0 +1,7 @@
+pub mod Asking
+pub mod Settling
+pub mod Beginning
+pub mod Pinning
+pub mod Naming
+pub mod Rows
+pub mod Keeping

@@ -1,0 +1,6 @@
+pub mod Theory
+pub mod Bridge
+pub mod Plans
+pub mod Forced
+pub mod Lawfuls
+pub mod Computed

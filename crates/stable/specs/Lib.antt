@@ -1,0 +1,5 @@
+-- Rulebooks, their plans, and what the five rules force.
+pub mod Books
+pub mod Decide
+pub mod Laws
+pub mod Cases

@@ -1,0 +1,2 @@
+-- An agenda under an extension, a split and a step back.
+pub mod States

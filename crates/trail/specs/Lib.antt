@@ -1,0 +1,2 @@
+-- An agenda of partials kept in three slices.
+pub mod Walks

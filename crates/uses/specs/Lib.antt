@@ -1,0 +1,4 @@
+pub mod Model
+pub mod Step
+pub mod Use
+pub mod Law
