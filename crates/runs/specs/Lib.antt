@@ -1,1 +1,2 @@
+-- Lists of calls and their replies.
 pub mod Run

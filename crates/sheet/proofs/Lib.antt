@@ -1,3 +1,4 @@
+-- The calls of the sheet keep the law.
 pub mod Asking
 pub mod Settling
 pub mod Beginning

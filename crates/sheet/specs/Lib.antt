@@ -1,2 +1,3 @@
+-- The sheet as the definitions have it.
 pub mod View
 pub mod Asks

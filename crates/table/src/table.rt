@@ -44,6 +44,7 @@ fn one_if(b: bool) -> usize
 impl Table {
     pub fn new() -> Self
         ensures begun { λ r. ⌜ r .begun ≡ false ⌝ }
+        ensures width { λ r. ⌜ r .width ≡ 0 ⌝ }
         ensures lines { λ r. ⌜ ((k : ℕ) → lineAt (r .lines .rows) k ≡ blank) ⌝ }
     {
         Table {

@@ -606,4 +606,4 @@ module _ (w : ℕ) (plan : List ℕ → Type 0) where
 
     pub continues : {m n : State} {c : Call} {r : Reply} → Step w plan m c r n → Continues w plan m c r n
     unfolding Continues
-    continues {n = n} {c = c} {r = r} x es u = (use-more u x, kept (event c r ∷ es) n)
+    continues {n = n} {c = c} {r = r} x es u = (record { parts = refl; before = u; after = next stop x }, use-more u x, kept (event c r ∷ es) n)

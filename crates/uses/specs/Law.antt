@@ -60,7 +60,9 @@ module _ (w : ℕ) (plan : List ℕ → Type 0) where
   unfoldable pub Starts : State → Type 0
   Starts n = Use w plan [] n × Kept [] n
 
-  -- what every call promises: whatever use led to the sheet m, with this call and this answer it is a use that leads to the sheet n,
+  -- what every call promises: whatever use led to the sheet m, with this call and this answer it is a use that goes from m on to the sheet n,
   -- and the law holds of it
   unfoldable pub Continues : State → Call → Reply → State → Type 0
-  Continues m c r n = (es : List Event) → Use w plan es m → Use w plan (event c r ∷ es) n × Kept (event c r ∷ es) n
+  Continues m c r n =
+      (es : List Event) → Use w plan es m
+      → Moment (event c r ∷ es) n es m (event c r ∷ []) × Use w plan (event c r ∷ es) n × Kept (event c r ∷ es) n
