@@ -29,6 +29,7 @@ fn main(rt: LibcRuntime) -> io::Result<()> {
         Call::SettleBy("chunk", 2),
         Call::Tell(5),
         Call::SettleBy("over", 0),
+        Call::Tell(3),
         Call::Pin(0, 1),
         Call::Tell(3),
         Call::Settle(&[0, 0, 0, 1, 0, 0]),
@@ -39,7 +40,7 @@ fn main(rt: LibcRuntime) -> io::Result<()> {
         Call::Tell(6),
         Call::Tally,
     ];
-    let mut replies = [Reply::Done; 18];
+    let mut replies = [Reply::Done; 19];
     let (_, made) = run(plans, &calls, &mut replies);
     for i in 0..made {
         print_call(rt, &calls[i])?;
