@@ -1,5 +1,5 @@
 #!/bin/sh
-# The pairs that search_counts settles, put to clingo as well: n independent pairs that exclude each other, with a
+# The pairs that search_counts settles as clauses, put to clingo as rules (a like problem, not the same input): n independent pairs that exclude each other, with a
 # third statement that either supports. Usage: bench/pairs.sh PROGRAM, where PROGRAM is the built search_counts; clingo
 # (Debian package gringo) must be installed. The program prints its counts, and on the error stream its times.
 set -eu
