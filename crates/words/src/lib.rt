@@ -125,7 +125,7 @@ fn is_too_long(n: usize) -> bool
 fn is_not(bytes: &[u8]) -> bool
     ensures { result ≡ bytes_eq bytes.now (codes "not") }
 {
-    bytes == b"not"
+    bytes == b"not".as_slice()
 }
 
 fn name_word<'a>(bytes: &'a [u8], at: usize) -> Word<'a>

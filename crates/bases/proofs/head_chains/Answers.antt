@@ -6,5 +6,5 @@ zero_at zero s = refl
 zero_at (suc n) zero = refl
 zero_at (suc n) (suc s) = zero_at n s
 
-pub chain-rows-requires : goal.chain-rows-requires
-chain-rows-requires c = record { few = c.requires; room = c.requires; clear = zero_at 512; free = zero_at 2048 }
+pub chain_rows-requires : goal.chain_rows-requires
+chain_rows-requires c = record { few = c.requires; room = c.requires; clear = zero_at 512; free = zero_at 2048 }

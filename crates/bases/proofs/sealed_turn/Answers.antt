@@ -2,8 +2,8 @@ use Rattle.std.proofs.Common.{arith}
 use Rattle.bases.proofs.Slicing.{slices_table, slices_few, slices_chain, slices_turn}
 use Rattle.bases.proofs.sealed_turn.Goals as goal
 
-pub table-turn-requires : goal.table-turn-requires
-table-turn-requires c =
+pub table_turn-requires : goal.table_turn-requires
+table_turn-requires c =
     let b = c.args.book.now in
     let t = slices_table b _ c.requires.partial.0 in
     let n = t.narrow in let m = slices_few b in let w = c.requires.wide in let f = c.requires.few in
@@ -17,4 +17,4 @@ table-turn-requires c =
     }
 
 pub returns : goal.returns
-returns c = slices_turn c.args.book.now c.args.p.now c.table-turn.new.p c.args.k c.table-turn.result c.requires.partial.0 c.table-turn.ensures
+returns c = slices_turn c.args.book.now c.args.p.now c.table_turn.new.p c.args.k c.table_turn.result c.requires.partial.0 c.table_turn.ensures

@@ -13,8 +13,8 @@ returns g c =
           (λ (r : Result Bool Refusal).
           Told (g.S.Source.wide c.args.source.now) (Of (g.S.Source.wide c.args.source.now) (g.S.Source.plan c.args.source.now)) c.args.pins.now c.args.statement
           (only_mark (length c.args.group.now) c.args.statement) c.args.place.now r c.question.new.place)
-          (sym c.told-by.ensures)
-          (question-tells (g.S.Source.wide c.args.source.now) (g.S.Source.plan c.args.source.now) c.args.pins.now c.mark-only.new.group c.args.place.now c.question.new.place
-          (length c.args.group.now) c.args.statement c.question.result c.mark-only.ensures c.question.ensures);
-      group = c.mark-only.ensures;
+          (sym c.told_by.ensures)
+          (question-tells (g.S.Source.wide c.args.source.now) (g.S.Source.plan c.args.source.now) c.args.pins.now c.mark_only.new.group c.args.place.now c.question.new.place
+          (length c.args.group.now) c.args.statement c.question.result c.mark_only.ensures c.question.ensures);
+      group = c.mark_only.ensures;
     }

@@ -12,7 +12,7 @@ loop-i-preserved c =
     let harbour = c.args.texts.harbour.now in
     let rows = c.args.names.now in
     let i = c.loop-i.i in
-    c.in-ok-push-line.ensures
-    ∙ ap (λ out. with_line out i (bytes_of c.name-of.result)) c.loop-i.invariant
-    ∙ ap (with_line (listed d region harbour rows i) i) (c.name-of.ensures ∙ ap (λ count. statement_name region harbour i count rows) c.names-count.ensures)
+    c.in_ok-push_line.ensures
+    ∙ ap (λ out. with_line out i (bytes_of c.name_of.result)) c.loop-i.invariant
+    ∙ ap (with_line (listed d region harbour rows i) i) (c.name_of.ensures ∙ ap (λ count. statement_name region harbour i count rows) c.names-count.ensures)
     ∙ ap (listed d region harbour rows) (sym (add-one i))

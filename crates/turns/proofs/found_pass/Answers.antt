@@ -4,23 +4,23 @@ use Rattle.turns.specs.Meaning.{book_of}
 use Rattle.turns.specs.Table.{Never, MarkedTo}
 use Rattle.turns.proofs.Marks.{marked_more, marked_same, marked_all}
 use Rattle.turns.proofs.found_pass.Goals as goal
-use Rattle.turns.proofs.found_pass.Goals.{then-found-row, else-found-row}
+use Rattle.turns.proofs.found_pass.Goals.{then-found_row, else-found_row}
 
 pub loop-i-preserved : goal.loop-i-preserved
 loop-i-preserved c =
     let p = c.args.p.now in let rs = c.args.rows.now in let es = c.args.entries.now in
-    elim c.if-found-row.branch [
-      | then-found-row w ↦ (let t = w.if-found-row.ensures in (
+    elim c.if-found_row.branch [
+      | then-found_row w ↦ (let t = w.if-found_row.ensures in (
         omega arith,
-        c.found-row.auto.marks ∙ c.loop-i.invariant.1,
+        c.found_row.auto.marks ∙ c.loop-i.invariant.1,
         t.1 c.loop-i.invariant.2,
-        subst (MarkedTo p rs es c.args.marks.now _ c.found-row.new.marks) (sym w.found-is) (marked_more p c.args.marks.now rs es c.loop-i.i c.loop-i.marks c.found-row.new.marks c.loop-i.found c.loop-i.invariant.3 t.0),
+        subst (MarkedTo p rs es c.args.marks.now _ c.found_row.new.marks) (sym w.found-is) (marked_more p c.args.marks.now rs es c.loop-i.i c.loop-i.marks c.found_row.new.marks c.loop-i.found c.loop-i.invariant.3 t.0),
       ))
-      | else-found-row w ↦ (let t = w.if-found-row.ensures in (
+      | else-found_row w ↦ (let t = w.if-found_row.ensures in (
         omega arith,
-        c.found-row.auto.marks ∙ c.loop-i.invariant.1,
+        c.found_row.auto.marks ∙ c.loop-i.invariant.1,
         subst (Never (book_of (length p) rs es) (holds p)) (sym t.0) c.loop-i.invariant.2,
-        subst (MarkedTo p rs es c.args.marks.now _ c.found-row.new.marks) (sym w.found-is) (marked_same p c.args.marks.now rs es c.loop-i.i c.loop-i.marks c.found-row.new.marks c.loop-i.found c.loop-i.invariant.3 t),
+        subst (MarkedTo p rs es c.args.marks.now _ c.found_row.new.marks) (sym w.found-is) (marked_same p c.args.marks.now rs es c.loop-i.i c.loop-i.marks c.found_row.new.marks c.loop-i.found c.loop-i.invariant.3 t),
       ))
     ]
 

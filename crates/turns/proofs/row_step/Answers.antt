@@ -3,8 +3,8 @@ use Rattle.turns.specs.Table.{LawTurn, RowKept}
 use Rattle.turns.proofs.Steps.{run_codes, rule_at_lem}
 use Rattle.turns.proofs.row_step.Goals as goal
 
-pub rule-step-requires : goal.rule-step-requires
-rule-step-requires c = record {
+pub rule_step-requires : goal.rule_step-requires
+rule_step-requires c = record {
   narrow = c.requires.table.narrow;
   bytes = c.requires.bytes;
   headed = c.requires.table.heads c.args.i _ c.requires.row;
@@ -12,5 +12,5 @@ rule-step-requires c = record {
 }
 
 pub returns : goal.returns
-returns c = subst (λ r. LawTurn (λ C. RowKept C r) c.args.p.now c.rule-step.new.p c.rule-step.result)
-    (rule_at_lem c.args.rows.now c.args.entries.now c.args.i (record { head = 0; first = 0; count = 0 }) c.requires.row) c.rule-step.ensures
+returns c = subst (λ r. LawTurn (λ C. RowKept C r) c.args.p.now c.rule_step.new.p c.rule_step.result)
+    (rule_at_lem c.args.rows.now c.args.entries.now c.args.i (record { head = 0; first = 0; count = 0 }) c.requires.row) c.rule_step.ensures

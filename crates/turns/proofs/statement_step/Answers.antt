@@ -5,8 +5,8 @@ use Rattle.turns.proofs.Supported.{several_turn, nobody_turn, only_turn, only_id
 use Rattle.turns.proofs.Steps.{run_codes}
 use Rattle.turns.proofs.statement_step.Goals as goal
 
-pub hold-body-requires : goal.hold-body-requires
-hold-body-requires c = record {
+pub hold_body-requires : goal.hold_body-requires
+hold_body-requires c = record {
   bytes = c.requires.bytes;
   codes = run_codes _ c.args.entries.now _ _ c.requires.table.codes (c.requires.table.runs c.in-Only.i blank c.in-Only.ensures.0);
 }
@@ -22,7 +22,7 @@ returns-then-p-s-eq1 c =
     let r = get_or c.args.rows.now c.in-Only.i blank in
     let e : r.first + r.count - r.first ≡ r.count = omega arith in
     only_turn c.args.p.now c.args.rows.now c.args.entries.now c.args.s (omega arith) _ _ c.in-Only.i c.if-p-s-eq1.true c.in-Only.ensures
-    (subst (λ k. LawTurn (AllOf (HoldAt (take k (drop r.first c.args.entries.now))) (length (take k (drop r.first c.args.entries.now)))) c.args.p.now c.hold-body.new.p c.hold-body.result) e c.hold-body.ensures)
+    (subst (λ k. LawTurn (AllOf (HoldAt (take k (drop r.first c.args.entries.now))) (length (take k (drop r.first c.args.entries.now)))) c.args.p.now c.hold_body.new.p c.hold_body.result) e c.hold_body.ensures)
 
 pub returns-else-p-s-eq1 : goal.returns-else-p-s-eq1
 returns-else-p-s-eq1 c = only_idle c.args.p.now c.args.rows.now c.args.entries.now c.args.s (omega arith) c.in-Only.i c.if-p-s-eq1.false c.in-Only.ensures

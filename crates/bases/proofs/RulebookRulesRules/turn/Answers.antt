@@ -2,8 +2,8 @@ use Rattle.std.proofs.Common.{length, take}
 use Rattle.turns.proofs.Chains.{facts_chain}
 use Rattle.bases.proofs.RulebookRulesRules.turn.Goals as goal
 
-pub sealed-turn-requires : goal.sealed-turn-requires
-sealed-turn-requires c =
+pub sealed_turn-requires : goal.sealed_turn-requires
+sealed_turn-requires c =
     let s = c.args.self.now in let b = s.book.now in
     record {
       partial = c.requires.partial;

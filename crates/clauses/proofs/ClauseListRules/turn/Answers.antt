@@ -7,16 +7,16 @@ use Rattle.clauses.specs.Sounds.{clauses_ok_lem, ClausesOk, clause_codes}
 use Rattle.clauses.proofs.Turns.{row_turn}
 use Rattle.clauses.proofs.ClauseListRules.turn.Goals as goal
 
-pub slice-bounds-clause-turn-end : goal.slice-bounds-clause-turn-end
-slice-bounds-clause-turn-end c =
+pub slice-bounds-clause_turn-end : goal.slice-bounds-clause_turn-end
+slice-bounds-clause_turn-end c =
     let s = c.args.self.now in
     (clauses_ok_lem s.width s.runs.now s.entries.now s.sound).runs c.args.k c.requires.at
 
 same : (f c : ℕ) → c ≡ f + c - f
 same f c = omega arith
 
-pub clause-turn-requires : goal.clause-turn-requires
-clause-turn-requires c =
+pub clause_turn-requires : goal.clause_turn-requires
+clause_turn-requires c =
     let s = c.args.self.now in
     let r = get_or s.runs.now c.args.k run0 in
     let w = c.requires.partial.0 in
@@ -32,7 +32,7 @@ pub returns : goal.returns
 returns c =
     let s = c.args.self.now in
     let r = get_or s.runs.now c.args.k run0 in
-    row_turn s.width s.runs.now s.entries.now c.args.k c.args.p.now c.clause-turn.new.p c.clause-turn.result c.requires.at
-    (subst (λ n. Turn (one_clause n (clause_at s.runs.now s.entries.now c.args.k)) 0 c.args.p.now c.clause-turn.new.p c.clause-turn.result) c.requires.partial.0
-    (subst (λ m. Turn (one_clause (length c.args.p.now) (take m (drop r.first s.entries.now))) 0 c.args.p.now c.clause-turn.new.p c.clause-turn.result) (sym (same r.first r.count))
-    c.clause-turn.ensures))
+    row_turn s.width s.runs.now s.entries.now c.args.k c.args.p.now c.clause_turn.new.p c.clause_turn.result c.requires.at
+    (subst (λ n. Turn (one_clause n (clause_at s.runs.now s.entries.now c.args.k)) 0 c.args.p.now c.clause_turn.new.p c.clause_turn.result) c.requires.partial.0
+    (subst (λ m. Turn (one_clause (length c.args.p.now) (take m (drop r.first s.entries.now))) 0 c.args.p.now c.clause_turn.new.p c.clause_turn.result) (sym (same r.first r.count))
+    c.clause_turn.ensures))

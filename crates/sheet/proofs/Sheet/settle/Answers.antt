@@ -7,15 +7,15 @@ use Rattle.sheet.proofs.Settling.{widened_few, widened-some}
 use Rattle.sheet.proofs.Rows
 use Rattle.sheet.proofs.Sheet.settle.Goals as goal
 
-pub returns-in-err-may-settle : goal.returns-in-err-may-settle
+pub returns-in_err-may_settle : goal.returns-in_err-may_settle
 unfolding Steps
-returns-in-err-may-settle g c =
-    let s = Rows.settle-refused (g.S.Source.wide c.args.self.now.source) (Of (g.S.Source.wide c.args.self.now.source) (g.S.Source.plan c.args.self.now.source)) c.args.self.now.table c.args.group.now c.from-residual.result c.in-err-may-settle.field-0.0 (Rows.err_is c.from-residual.result c.in-err-may-settle.field-0.0 c.from-residual.ensures.1) (subst (λ v. MaySettle v c.args.self.now.table c.args.group.now (Err c.in-err-may-settle.field-0.0)) c.width.ensures.value c.in-err-may-settle.ensures) in
+returns-in_err-may_settle g c =
+    let s = Rows.settle-refused (g.S.Source.wide c.args.self.now.source) (Of (g.S.Source.wide c.args.self.now.source) (g.S.Source.plan c.args.self.now.source)) c.args.self.now.table c.args.group.now c.from_residual.result c.in_err-may_settle.field_0.0 (Rows.err_is c.from_residual.result c.in_err-may_settle.field_0.0 c.from_residual.ensures.1) (subst (λ v. MaySettle v c.args.self.now.table c.args.group.now (Err c.in_err-may_settle.field_0.0)) c.width.ensures.value c.in_err-may_settle.ensures) in
     record { source = refl; step = s; law = law_continues _ _ _ _ _ _ s }
 
-pub settle-marks-requires : goal.settle-marks-requires
-settle-marks-requires g c =
-    let may = (subst (λ v. MaySettle v c.args.self.now.table c.args.group.now (Ok tt)) c.width.ensures.value c.in-ok-may-settle.ensures) in
+pub settle_marks-requires : goal.settle_marks-requires
+settle_marks-requires g c =
+    let may = (subst (λ v. MaySettle v c.args.self.now.table c.args.group.now (Ok tt)) c.width.ensures.value c.in_ok-may_settle.ensures) in
     record {
       begun = may.2;
       marks = widened_few 1 c.args.group.now c.widened-marks.result may.1 c.widened-marks.ensures;
@@ -25,5 +25,5 @@ settle-marks-requires g c =
 pub returns : goal.returns
 unfolding Steps
 returns g c =
-    let s = Rows.settle-done (g.S.Source.wide c.args.self.now.source) (Of (g.S.Source.wide c.args.self.now.source) (g.S.Source.plan c.args.self.now.source)) c.args.self.now.table c.args.group.now c.settle-marks.new.self.table c.widened-marks.result c.settle-marks.result (subst (λ v. MaySettle v c.args.self.now.table c.args.group.now (Ok tt)) c.width.ensures.value c.in-ok-may-settle.ensures) c.widened-marks.ensures c.settle-marks.ensures.settles c.settle-marks.ensures.rest c.settle-marks.ensures.count in
-    record { source = c.settle-marks.ensures.source; step = s; law = law_continues _ _ _ _ _ _ s }
+    let s = Rows.settle-done (g.S.Source.wide c.args.self.now.source) (Of (g.S.Source.wide c.args.self.now.source) (g.S.Source.plan c.args.self.now.source)) c.args.self.now.table c.args.group.now c.settle_marks.new.self.table c.widened-marks.result c.settle_marks.result (subst (λ v. MaySettle v c.args.self.now.table c.args.group.now (Ok tt)) c.width.ensures.value c.in_ok-may_settle.ensures) c.widened-marks.ensures c.settle_marks.ensures.settles c.settle_marks.ensures.rest c.settle_marks.ensures.count in
+    record { source = c.settle_marks.ensures.source; step = s; law = law_continues _ _ _ _ _ _ s }

@@ -6,25 +6,25 @@ use Rattle.sheet.proofs.Keeping.{law_continues}
 use Rattle.sheet.proofs.Rows
 use Rattle.sheet.proofs.Sheet.settle_by.Goals as goal
 
-pub returns-in-err-limit : goal.returns-in-err-limit
+pub returns-in_err-limit : goal.returns-in_err-limit
 unfolding Steps
-returns-in-err-limit g c =
-    let s = Rows.by-refused (g.S.Source.wide c.args.self.now.source) (Of (g.S.Source.wide c.args.self.now.source) (g.S.Source.plan c.args.self.now.source)) c.args.self.now.table c.args.technique.now c.args.size c.from-residual.result c.in-err-limit.field-0.0 (Rows.err_is c.from-residual.result c.in-err-limit.field-0.0 c.from-residual.ensures.1) (subst (λ v. MaySettleBy v c.args.self.now.table c.args.technique.now c.args.size (Err c.in-err-limit.field-0.0)) c.width.ensures.value c.in-err-limit.ensures) in
+returns-in_err-limit g c =
+    let s = Rows.by-refused (g.S.Source.wide c.args.self.now.source) (Of (g.S.Source.wide c.args.self.now.source) (g.S.Source.plan c.args.self.now.source)) c.args.self.now.table c.args.technique.now c.args.size c.from_residual.result c.in_err-limit.field_0.0 (Rows.err_is c.from_residual.result c.in_err-limit.field_0.0 c.from_residual.ensures.1) (subst (λ v. MaySettleBy v c.args.self.now.table c.args.technique.now c.args.size (Err c.in_err-limit.field_0.0)) c.width.ensures.value c.in_err-limit.ensures) in
     record { source = refl; step = s; law = law_continues _ _ _ _ _ _ s }
 
-pub settle-marks-requires : goal.settle-marks-requires
-settle-marks-requires g c =
-    let may = (subst (λ v. MaySettleBy v c.args.self.now.table c.args.technique.now c.args.size (Ok c.in-ok-limit.limit)) c.width.ensures.value c.in-ok-limit.ensures) in
+pub settle_marks-requires : goal.settle_marks-requires
+settle_marks-requires g c =
+    let may = (subst (λ v. MaySettleBy v c.args.self.now.table c.args.technique.now c.args.size (Ok c.in_ok-limit.limit)) c.width.ensures.value c.in_ok-limit.ensures) in
     record {
       begun = may.0;
-      marks = Rows.lowest_few c.args.self.now.table.lines.rows c.in-ok-limit.limit c.lowest-marks.result c.lowest-marks.ensures;
+      marks = Rows.lowest_few c.args.self.now.table.lines.rows c.in_ok-limit.limit c.lowest-marks.result c.lowest-marks.ensures;
       some =
           Rows.by_some (g.S.Source.wide c.args.self.now.source) (Of (g.S.Source.wide c.args.self.now.source) (g.S.Source.plan c.args.self.now.source)) c.args.self.now.table
-          c.args.technique.now c.args.size c.in-ok-limit.limit may c.lowest-marks.result c.lowest-marks.ensures;
+          c.args.technique.now c.args.size c.in_ok-limit.limit may c.lowest-marks.result c.lowest-marks.ensures;
     }
 
 pub returns : goal.returns
 unfolding Steps
 returns g c =
-    let s = Rows.by-done (g.S.Source.wide c.args.self.now.source) (Of (g.S.Source.wide c.args.self.now.source) (g.S.Source.plan c.args.self.now.source)) c.args.self.now.table c.args.technique.now c.args.size c.in-ok-limit.limit (subst (λ v. MaySettleBy v c.args.self.now.table c.args.technique.now c.args.size (Ok c.in-ok-limit.limit)) c.width.ensures.value c.in-ok-limit.ensures) c.lowest-marks.result c.lowest-marks.ensures c.settle-marks.new.self.table c.settle-marks.result c.settle-marks.ensures.settles c.settle-marks.ensures.rest c.settle-marks.ensures.count in
-    record { source = c.settle-marks.ensures.source; step = s; law = law_continues _ _ _ _ _ _ s }
+    let s = Rows.by-done (g.S.Source.wide c.args.self.now.source) (Of (g.S.Source.wide c.args.self.now.source) (g.S.Source.plan c.args.self.now.source)) c.args.self.now.table c.args.technique.now c.args.size c.in_ok-limit.limit (subst (λ v. MaySettleBy v c.args.self.now.table c.args.technique.now c.args.size (Ok c.in_ok-limit.limit)) c.width.ensures.value c.in_ok-limit.ensures) c.lowest-marks.result c.lowest-marks.ensures c.settle_marks.new.self.table c.settle_marks.result c.settle_marks.ensures.settles c.settle_marks.ensures.rest c.settle_marks.ensures.count in
+    record { source = c.settle_marks.ensures.source; step = s; law = law_continues _ _ _ _ _ _ s }

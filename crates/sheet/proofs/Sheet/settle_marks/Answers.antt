@@ -7,16 +7,16 @@ pub ceased-requires : goal.ceased-requires
 ceased-requires g c =
     let d =
     all_done (g.S.Source.wide c.args.self.now.source) (Of (g.S.Source.wide c.args.self.now.source) (g.S.Source.plan c.args.self.now.source)) (λ p q. q.1)
-    c.args.self.now.table c.settle-lines.new.self.table _ c.args.marks.now _ c.count-before.result c.count-after.result _
-    c.requires.begun c.requires.some c.count-before.ensures c.pins-pins.ensures c.settle-lines.ensures.asked c.settle-lines.ensures.lines
-    c.settle-lines.ensures.begun c.settle-lines.ensures.width c.count-after.ensures in
+    c.args.self.now.table c.settle_lines.new.self.table _ c.args.marks.now _ c.count-before.result c.count-after.result _
+    c.requires.begun c.requires.some c.count-before.ensures c.pins-pins.ensures c.settle_lines.ensures.asked c.settle_lines.ensures.lines
+    c.settle_lines.ensures.begun c.settle_lines.ensures.width c.count-after.ensures in
     d.fewer
 
 pub returns : goal.returns
 returns g c =
     let d =
     all_done (g.S.Source.wide c.args.self.now.source) (Of (g.S.Source.wide c.args.self.now.source) (g.S.Source.plan c.args.self.now.source)) (λ p q. q.1)
-    c.args.self.now.table c.settle-lines.new.self.table _ c.args.marks.now _ c.count-before.result c.count-after.result _
-    c.requires.begun c.requires.some c.count-before.ensures c.pins-pins.ensures c.settle-lines.ensures.asked c.settle-lines.ensures.lines
-    c.settle-lines.ensures.begun c.settle-lines.ensures.width c.count-after.ensures in
-    record { source = c.settle-lines.ensures.source; rest = d.rest; settles = d.settles; count = d.counts c.ceased.result c.ceased.ensures }
+    c.args.self.now.table c.settle_lines.new.self.table _ c.args.marks.now _ c.count-before.result c.count-after.result _
+    c.requires.begun c.requires.some c.count-before.ensures c.pins-pins.ensures c.settle_lines.ensures.asked c.settle_lines.ensures.lines
+    c.settle_lines.ensures.begun c.settle_lines.ensures.width c.count-after.ensures in
+    record { source = c.settle_lines.ensures.source; rest = d.rest; settles = d.settles; count = d.counts c.ceased.result c.ceased.ensures }

@@ -9,5 +9,5 @@ use Rattle.sheet.proofs.Sheet.tally.Goals as goal
 pub returns : goal.returns
 unfolding Steps
 returns g c =
-    let s = Rows.tally_step (g.S.Source.wide c.args.self.now.source) (Of (g.S.Source.wide c.args.self.now.source) (g.S.Source.plan c.args.self.now.source)) c.args.self.now.table c.may-tally.result (subst (λ v. MayTally v c.args.self.now.table c.may-tally.result) c.width.ensures.value c.may-tally.ensures) in
+    let s = Rows.tally_step (g.S.Source.wide c.args.self.now.source) (Of (g.S.Source.wide c.args.self.now.source) (g.S.Source.plan c.args.self.now.source)) c.args.self.now.table c.may_tally.result (subst (λ v. MayTally v c.args.self.now.table c.may_tally.result) c.width.ensures.value c.may_tally.ensures) in
     record { step = s; law = law_continues _ _ _ _ _ _ s }

@@ -9,5 +9,5 @@ use Rattle.sheet.proofs.Sheet.tell.Goals as goal
 pub returns : goal.returns
 unfolding Steps
 returns g c =
-    let s = Rows.tell_step (g.S.Source.wide c.args.self.now.source) (Of (g.S.Source.wide c.args.self.now.source) (g.S.Source.plan c.args.self.now.source)) c.args.self.now.table c.args.statement c.may-tell.result (subst (λ v. MayTell v c.args.self.now.table c.args.statement c.may-tell.result) c.width.ensures.value c.may-tell.ensures) in
+    let s = Rows.tell_step (g.S.Source.wide c.args.self.now.source) (Of (g.S.Source.wide c.args.self.now.source) (g.S.Source.plan c.args.self.now.source)) c.args.self.now.table c.args.statement c.may_tell.result (subst (λ v. MayTell v c.args.self.now.table c.args.statement c.may_tell.result) c.width.ensures.value c.may_tell.ensures) in
     record { step = s; law = law_continues _ _ _ _ _ _ s }

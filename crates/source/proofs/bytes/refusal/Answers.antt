@@ -3,7 +3,7 @@ use Rattle.source.proofs.bytes.refusal.Goals as goal
 
 pub returns : goal.returns
 returns c = record {
-  cause = c.first-cause.ensures;
-  only = cause_only c.args.width c.args.pins.now c.args.group.now c.args.place.now c.first-cause.result c.first-cause.ensures;
-  taken = cause_none c.args.width c.args.pins.now c.args.group.now c.args.place.now c.first-cause.result c.first-cause.ensures;
+  cause = c.first_cause.ensures;
+  only = cause_only c.args.width c.args.pins.now c.args.group.now c.args.place.now c.first_cause.result c.first_cause.ensures;
+  taken = cause_none c.args.width c.args.pins.now c.args.group.now c.args.place.now c.first_cause.result c.first_cause.ensures;
 }

@@ -4,7 +4,7 @@ use Rattle.std.proofs.lemmas.List.{take_all}
 use Rattle.words.specs.Words.{ends_line}
 use Rattle.std.proofs.lemmas.List.Sums.{count_by_more_yes, count_by_more_no}
 use Rattle.text.proofs.lines.line_of.Goals as goal
-use Rattle.text.proofs.lines.line_of.Goals.{then-ends-line, else-ends-line}
+use Rattle.text.proofs.lines.line_of.Goals.{then-ends_line, else-ends_line}
 
 take_least : (n : ℕ) (xs : List ℕ) (i : ℕ) → i ≡ min n (length xs) → take i xs ≡ take n xs
 take_least n xs i e = go (dec_le n (length xs))
@@ -18,7 +18,7 @@ loop-i-preserved c =
     let t = c.args.text.now in
     let i = c.loop-i.i in
     let h : i < length t = omega arith in
-    elim c.if-ends-line.branch [ then-ends-line w ↦ (omega (arith, w.line-is, count_by_more_yes ends_line t i 0 h (sym w.if-ends-line.ensures)), omega (arith, w.line-is)) | else-ends-line w ↦ (omega (arith, w.line-is, count_by_more_no ends_line t i 0 h (sym w.if-ends-line.ensures)), omega (arith, w.line-is)) ]
+    elim c.if-ends_line.branch [ then-ends_line w ↦ (omega (arith, w.line-is, count_by_more_yes ends_line t i 0 h (sym w.if-ends_line.ensures)), omega (arith, w.line-is)) | else-ends_line w ↦ (omega (arith, w.line-is, count_by_more_no ends_line t i 0 h (sym w.if-ends_line.ensures)), omega (arith, w.line-is)) ]
 
 pub returns : goal.returns
 returns c = c.loop-i.invariant.0 ∙ ap (λ l. 1 + count_by ends_line l) (take_least c.args.at c.args.text.now c.loop-i.i (omega arith))

@@ -17,8 +17,8 @@ loop-i-preserved c =
     let b = written_more c.loop-i.bytes (keep_b d ms bs) bs i c.kept.result (omega arith)
     (c.kept.ensures ∙ ap (λ m. cond (ltb m d) (get_or c.loop-i.bytes i 0) 0) wasm ∙ ap (λ x. cond (ltb (get_or ms i 0) d) x 0) wasb ∙ sym (keep_b_at d ms bs i c.requires ltb'))
     c.loop-i.invariant.0 c.loop-i.invariant.1 in
-    let m = written_more c.loop-i.marks (keep_m d ms) ms i c.kept-mark.result (omega arith)
-    (c.kept-mark.ensures ∙ ap (λ m. cond (ltb m d) m 65535) wasm ∙ sym (keep_m_at d ms i ltm))
+    let m = written_more c.loop-i.marks (keep_m d ms) ms i c.kept_mark.result (omega arith)
+    (c.kept_mark.ensures ∙ ap (λ m. cond (ltb m d) m 65535) wasm ∙ sym (keep_m_at d ms i ltm))
     c.loop-i.invariant.2 c.loop-i.invariant.3 in
     (b.0, b.1, m.0, m.1)
 

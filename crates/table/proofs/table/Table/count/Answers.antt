@@ -5,4 +5,4 @@ use Rattle.table.proofs.table.Table.count.Goals as goal
 
 pub loop-i-preserved : goal.loop-i-preserved
 loop-i-preserved c =
-    count-more (λ k. line_has c.args.word (line_at c.args.self.now.lines.rows k)) _ _ _ _ c.loop-i.invariant.0 c.loop-i.invariant.1 c.has.ensures c.one-if-n.ensures
+    count-more (λ k. line_has c.args.word (line_at c.args.self.now.lines.rows k)) _ _ _ _ c.loop-i.invariant.0 c.loop-i.invariant.1 c.has.ensures c.one_if-n.ensures

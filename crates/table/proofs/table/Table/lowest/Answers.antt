@@ -12,8 +12,8 @@ loop-i-init c = (omega arith, refl, refl, (λ k h. absurd (omega arith)), λ k h
 pub loop-i-preserved : goal.loop-i-preserved
 loop-i-preserved c =
     let n =
-    count-more (λ k. line_has Open (line_at c.args.self.now.lines.rows k)) _ _ _ _ c.loop-i.invariant.0 c.loop-i.invariant.1 c.has-open.ensures c.one-if-n.ensures in
+    count-more (λ k. line_has Open (line_at c.args.self.now.lines.rows k)) _ _ _ _ c.loop-i.invariant.0 c.loop-i.invariant.1 c.has-open.ensures c.one_if-n.ensures in
     let m =
-    lowest-more c.args.self.now.lines.rows c.args.limit c.loop-i.i c.loop-i.n c.lowest-mark.result 0 c.loop-i.marks c.has-open.result (omega arith) c.loop-i.invariant.2
-    c.loop-i.invariant.1 c.loop-i.invariant.3 c.loop-i.invariant.4 c.has-open.ensures c.lowest-mark.ensures in
+    lowest-more c.args.self.now.lines.rows c.args.limit c.loop-i.i c.loop-i.n c.lowest_mark.result 0 c.loop-i.marks c.has-open.result (omega arith) c.loop-i.invariant.2
+    c.loop-i.invariant.1 c.loop-i.invariant.3 c.loop-i.invariant.4 c.has-open.ensures c.lowest_mark.ensures in
     (n.0, n.1, m.0, m.1, m.2)

@@ -12,5 +12,5 @@ returns-in-None c =
     let text = c.args.text.now in
     let earlier = c.args.earlier.now in
     let t : Tables = record { names = c.args.names.now; rules = c.args.rules.now; entries = c.args.entries.now } in
-    let e = c.take-text.ensures ∙ ap (read_if d text earlier t) c.in-None.ensures in
+    let e = c.take_text.ensures ∙ ap (read_if d text earlier t) c.in-None.ensures in
     record { is = e; law = subst (Reads d text earlier t) (sym e) (lawful d text earlier t (record { names = c.args.self.now.limits.1; rules = c.args.self.now.limits.2; entries = c.args.self.now.limits.3 })) }
