@@ -1,4 +1,6 @@
 // What a base is: a width, a set of plans, and one outcome for each partial.
+#![tactic(auto)]
+
 ghost use Rattle.std.specs.Prelude.{◌≡◌, ℕ, List};
 ghost use Rattle.base.specs.Laws.{Out, Lawful};
 ghost use Rattle.base.specs.Extending.{Extends, Checked};

@@ -1,4 +1,6 @@
 // The rulebook base: the five rules of a sealed rulebook as rules that force decisions.
+#![tactic(auto)]
+
 ghost use Rattle.std.specs.Prelude.{◌≡◌, ℕ, ◌+◌, ◌<◌, ◌≤◌, length, take};
 ghost use Rattle.source.specs.Plans.{UpTo, Partial};
 ghost use Rattle.base.specs.Extending.{Extends};

@@ -1,4 +1,6 @@
 // Whether a statement holds in every plan of a source, asked of any source by its contract alone.
+#![tactic(auto)]
+
 ghost use Rattle.std.specs.Prelude.{◌≡◌, length};
 ghost use Rattle.source.specs.Plans.{Of};
 ghost use Rattle.certain.specs.Certain.{Told, only_mark, told_by};

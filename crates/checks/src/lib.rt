@@ -1,4 +1,6 @@
 // The checks of a sheet's calls, before its source is asked: of all rows that refuse a call, the first wins.
+#![tactic(auto)]
+
 ghost use Rattle.std.specs.Prelude.{◌≡◌};
 ghost use Rattle.checks.specs.View.{view};
 ghost use Rattle.checks.specs.Checks.{MayBegin, MaySettle, MaySettleBy, MayPin, MayTell, MayTally};

@@ -1,4 +1,6 @@
 // Clause lists over lent runs and entries, as rules that force decisions.
+#![tactic(auto)]
+
 ghost use Rattle.std.specs.Prelude.{◌≡◌, ℕ, ◌+◌, ◌*◌, ◌<◌, ◌≤◌, List, [], length, if◌then◌else◌};
 ghost use Rattle.source.specs.Plans.{Partial};
 ghost use Rattle.closing.specs.Turns.{Turn};

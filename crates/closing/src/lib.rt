@@ -1,4 +1,6 @@
 // The closure of rules that force decisions, and the base that it makes.
+#![tactic(auto)]
+
 ghost use Rattle.std.specs.Prelude.{◌≡◌, ℕ, ◌*◌, ◌<◌, ◌≤◌, List, length};
 ghost use Rattle.source.specs.Plans.{Partial, UpTo};
 ghost use Rattle.closing.specs.Sets.{contrary, holds};

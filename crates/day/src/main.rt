@@ -1,4 +1,6 @@
 // A day at a harbour: one whole use of a sheet over listed plans, each call printed with its answer.
+#![tactic(auto)]
+
 use runs::run::run;
 use runs::{Call, Reply};
 use show::{print_call, print_reply};

@@ -1,4 +1,6 @@
 // The theory of the first plan below a partial, from the laws of a base alone: no code, for any walk to cite.
+#![tactic(auto)]
+
 ghost use Rattle.first.specs.Tree.{FirstStands};
 ghost use Rattle.first.specs.Agenda.{TurnsStand};
 

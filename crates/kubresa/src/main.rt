@@ -1,4 +1,6 @@
 // Reads the rule texts of the folder it is run in, the region's and the harbour's, and prints what they say, or the fault.
+#![tactic(auto)]
+
 ghost use Rattle.std.specs.Prelude.{◌≡◌, ◌++◌, IfOk, string_bytes, codes, decimal, OnOk};
 ghost use Rattle.tables.specs.Draft.{Counts, Outcome};
 ghost use Rattle.tables.specs.Numbers.{number_of};

@@ -1,4 +1,6 @@
 // The plans of a base that meet a group, as a base over it.
+#![tactic(auto)]
+
 ghost use Rattle.std.specs.Prelude.{◌≡◌, ◌<◌, length, MatchBool};
 ghost use Rattle.source.specs.Plans.{Partial};
 ghost use Rattle.narrow.specs.Meeting.{MeetingPlan, CanFail, MayMeet, narrowed, Ahead, Narrows, CutStands};

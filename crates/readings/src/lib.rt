@@ -1,4 +1,6 @@
 // Tests of the readings of rulebooks that are easily got wrong, each over a sealed rulebook.
+#![tactic(auto)]
+
 use base::Outcome;
 use bases::extend_rulebook;
 use rulebook::row::RuleRow;

@@ -1,4 +1,6 @@
 // Sealed rulebooks: rows of rules and entries that lie within their counts, and the sealing that makes sure of it.
+#![tactic(auto)]
+
 ghost use Rattle.std.specs.Prelude.{◌≡◌, ℕ, ◌*◌, ◌<◌, ◌≤◌, true, length, replicate, slice_index, slice_index_or};
 ghost use Rattle.rulebook.specs.Rows.{blank, padded, row_in, rows_in, entries_in};
 ghost use Rattle.rulebook.specs.Sealing.{limited, sealable, Sealing, number_of};

@@ -1,4 +1,6 @@
 // Whole uses of a sheet: calls as values, one put to a sheet, and a list of them run from the making on.
+#![tactic(auto)]
+
 mod call;
 pub mod run;
 

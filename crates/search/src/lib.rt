@@ -1,4 +1,6 @@
 // A source out of any base: the first plan that serves.
+#![tactic(auto)]
+
 ghost use Rattle.std.specs.Prelude.{◌≡◌};
 ghost use Rattle.source.specs.Plans.{Of};
 ghost use Rattle.source.specs.Asked.{Asked};

@@ -1,4 +1,6 @@
 // Counts the extensions that settling takes: all that hold in the first plan are asked for at once, again and again, until none is open.
+#![tactic(auto)]
+
 use base::{Base, Outcome};
 use clauses::ClauseRefusal;
 use clauses::list::ClauseList;

@@ -1,4 +1,6 @@
 // What the search answers, against an enumerator written apart from it.
+#![tactic(auto)]
+
 #[cfg(test)]
 mod clause_tests;
 #[cfg(test)]

@@ -1,4 +1,6 @@
 // The certainty sheet over any source: which candidates hold in every plan, promised step by step and never taken back.
+#![tactic(auto)]
+
 ghost use Rattle.std.specs.Prelude.{◌≡◌, ℕ, ◌+◌, ◌<◌, ◌≤◌, true, MatchBool, nat_eq, slice_index};
 ghost use Rattle.source.specs.Plans.{Of, UpTo};
 ghost use Rattle.uses.specs.declared.Word.TheVariants.{Open};

@@ -1,4 +1,6 @@
 // What sheets answer on examples.
+#![tactic(auto)]
+
 #[cfg(test)]
 mod day;
 #[cfg(test)]

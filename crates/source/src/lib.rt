@@ -1,4 +1,6 @@
 // What a source of plans is: its answers, its refusals and the contract that every source keeps.
+#![tactic(auto)]
+
 ghost use Rattle.std.specs.Prelude.{◌≡◌, ℕ, ◌≤◌, List};
 ghost use Rattle.source.specs.Plans.{Of};
 ghost use Rattle.source.specs.Numbers.{number_of};

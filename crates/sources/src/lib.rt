@@ -1,4 +1,6 @@
 // Sources of plans: plans that are listed, and two sources joined.
+#![tactic(auto)]
+
 pub mod listed;
 pub mod pair;
 pub mod refusal;

@@ -1,4 +1,6 @@
 // What sources answer on examples.
+#![tactic(auto)]
+
 #[cfg(test)]
 mod certain_statements;
 #[cfg(test)]

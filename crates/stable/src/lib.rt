@@ -1,4 +1,6 @@
 // The theorems on rulebooks, each in the contract of a function, and the worked cases.
+#![tactic(auto)]
+
 pub mod cases;
 
 ghost use Rattle.stable.specs.Laws.{PlansAreKept, KeptArePlans, ClosureIsLeast, PlansAgree, ClashMeansNoPlan, WholeIsPlan, OutcomeIsClosure, BookLawful, TestsTell};

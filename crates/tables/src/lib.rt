@@ -1,4 +1,6 @@
 // The rows of the lent tables, and why a text is refused; specs/ has what reading a text leaves in them.
+#![tactic(auto)]
+
 ghost use Rattle.std.specs.Prelude.{◌≡◌};
 ghost use Rattle.tables.specs.Numbers.{number_of};
 ghost use Rattle.tables.specs.Reading.{stop_of};

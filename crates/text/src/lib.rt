@@ -1,4 +1,6 @@
 // Drafts of rulebooks: rule texts are read into lent tables of names, rules and entries.
+#![tactic(auto)]
+
 mod clear;
 mod draft;
 mod lines;

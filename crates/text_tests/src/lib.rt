@@ -1,4 +1,6 @@
 // Tests of reading texts into drafts, of finding and of naming.
+#![tactic(auto)]
+
 #[cfg(test)]
 mod desk;
 #[cfg(test)]

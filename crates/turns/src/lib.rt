@@ -1,4 +1,6 @@
 // The turns of the five rules over tables of rules and entries.
+#![tactic(auto)]
+
 ghost use Rattle.std.specs.Prelude.{◌≡◌, ℕ, ◌+◌, ◌*◌, ◌<◌, ◌≤◌, not, ◌⊎◌, length, set, if◌then◌else◌, ◌==◌, nat_lt, slice_index, slice_index_or, slice_set};
 ghost use Rattle.source.specs.Plans.{UpTo};
 ghost use Rattle.closing.specs.Sets.{holds, Codes};

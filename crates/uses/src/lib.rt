@@ -1,4 +1,6 @@
 // The words, the tally and the refusals of a sheet; specs/ has its model, what each call does, its uses and the law over them.
+#![tactic(auto)]
+
 ghost use Rattle.std.specs.Prelude.{◌≡◌};
 ghost use Rattle.uses.specs.Model.{number_of, word_number};
 

@@ -1,4 +1,6 @@
 // The first plan of any base that agrees with pins, found by a walk over the base's extensions.
+#![tactic(auto)]
+
 ghost use Rattle.std.specs.Prelude.{◌≡◌, length, MatchOption};
 ghost use Rattle.source.specs.Plans.{Partial};
 ghost use Rattle.first.specs.Tree.{Below};
