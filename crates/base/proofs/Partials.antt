@@ -1,8 +1,8 @@
 -- Partials, plans and their bytes.
-use Rattle.std.proofs.Common.{◌≡◌, ℕ, ◌<◌, ◌≤◌, ◌≢◌, ◌⊎◌, List, length, get_or, inl, inr, arith}
+use Rattle.std.proofs.Common.{◌≡◌, ℕ, ◌<◌, ◌≤◌, ◌≢◌, List, length, get_or, inl, inr, arith}
 use Rattle.std.proofs.lemmas.Bool.{cases_lt, cases_eq}
 use Rattle.std.proofs.lemmas.List.{get_or_past}
-use Rattle.source.specs.Plans.{UpTo, Partial, Whole}
+use Rattle.source.specs.Plans.{Partial, Whole}
 
 pub long : (w : ℕ) (q : List ℕ) → Partial w q → length q ≡ w
 long w q p = p.0

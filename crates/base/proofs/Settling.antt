@@ -1,8 +1,8 @@
 -- A case is settled by running through all rows.
-use Rattle.std.proofs.Common.{◌≡◌, ℕ, zero, suc, ◌+◌, ◌<◌, ◌≤◌, Bool, true, false, cond, ◌&&◌, ◌||◌, eqb, ◌≢◌, ◌⊎◌, List, [], ◌∷◌, ◌++◌, map, length, get_or, sym, refl, ap, ◌∙◌, subst, inl, inr, arith}
-use Rattle.std.proofs.lemmas.Bool.{eqb-true, eq-eqb, cases_Bool, cases_eq, and_parts, and_from, or_cases, or_left, or_right, both_ways, cond-true, cond-false}
+use Rattle.std.proofs.Common.{◌≡◌, ℕ, zero, suc, ◌+◌, ◌<◌, ◌≤◌, Bool, true, ◌&&◌, ◌||◌, eqb, ◌⊎◌, List, [], ◌∷◌, ◌++◌, map, get_or, sym, refl, ap, subst, inl, inr, arith}
+use Rattle.std.proofs.lemmas.Bool.{eqb-true, eq-eqb, cases_Bool, cases_eq, and_parts, and_from, or_cases, or_left, or_right, cond-true, cond-false}
 use Rattle.source.specs.Plans.{Whole, Agrees}
-use Rattle.base.specs.Settled.{Among, Exactly, Certain, Settled, all_rows, agreeing, pick, picked, holds_in, sure_from}
+use Rattle.base.specs.Settled.{Among, Exactly, Settled, all_rows, agreeing, pick, picked, holds_in, sure_from}
 
 among_left : {X : Type 0} (x : X) (xs ys : List X) → Among x xs → Among x (xs ++ ys)
 among_left x [] ys m = absurd m

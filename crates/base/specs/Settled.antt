@@ -4,7 +4,7 @@
 --   Certain   a statement holds in every plan that agrees with the pins
 --   Settled   the plans, and which statements are certain
 --   all_rows, agreeing, picked, sure_from   the same by computation
-use Rattle.std.specs.Prelude.{◌≡◌, ℕ, zero, suc, ◌<◌, Bool, true, false, cond, ◌&&◌, ◌||◌, ◌⊎◌, List, [], ◌∷◌, ◌++◌, map, ◌==◌, slice_index}
+use Rattle.std.specs.Prelude.{◌≡◌, ℕ, zero, suc, ◌<◌, Bool, true, cond, ◌&&◌, ◌||◌, ◌⊎◌, List, [], ◌∷◌, ◌++◌, map, ◌==◌, slice_index}
 use Rattle.source.specs.Plans.{Agrees}
 
 -- the list has x

@@ -55,7 +55,7 @@ pub fn refusal_of(width: usize, partial: &[u8]) -> Option<Refusal>
 
 // The laws of a base, for any base.
 pub fn laws_stand<B: Base>(base: &B) -> u8
-    ensures { Lawful (wide base.now) (plan base.now) (outcome base.now) }
+    ensures { Lawful (B.wide base.now) (B.plan base.now) (B.outcome base.now) }
 {
     0
 }

@@ -1,7 +1,7 @@
 -- Rows of rules and entries within their counts.
 --   row_in, rows_in, entries_in   whether they are
 --   padded                     a list and blanks after it
-use Rattle.std.specs.Prelude.{ℕ, ◌+◌, ◌-◌, ◌*◌, Bool, true, false, ◌&&◌, ◌||◌, List, [], ◌∷◌, ◌++◌, length, replicate, ◌==◌, nat_le, nat_lt}
+use Rattle.std.specs.Prelude.{ℕ, ◌+◌, ◌-◌, ◌*◌, Bool, true, ◌&&◌, ◌||◌, List, [], ◌∷◌, ◌++◌, length, replicate, ◌==◌, nat_le, nat_lt}
 use Rattle.rulebook.specs.declared.row.RuleRow.{RuleRow}
 
 -- what stands past the last row

@@ -1,5 +1,5 @@
 -- The causes of refusals exclude one another, and a question that is taken has none.
-use Rattle.std.proofs.Common.{◌≡◌, ℕ, ◌<◌, ◌≤◌, List, Some, None, Option, sym, refl, ap, arith, MatchOption}
+use Rattle.std.proofs.Common.{◌≡◌, ℕ, List, Some, None, Option, refl, ap, arith, MatchOption}
 use Rattle.source.specs.Asked.{Refused, Taken}
 use Rattle.source.specs.declared.Refusal.{Refusal}
 use Rattle.source.specs.declared.Refusal.TheVariants.{Length, Value, Mark, Wide}

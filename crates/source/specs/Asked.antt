@@ -3,12 +3,12 @@
 --   Refused  the cause of each refusal
 --   Taken    a question that is not refused
 --   Asked    the whole contract of a question
-use Rattle.std.specs.Prelude.{◌≡◌, ℕ, ◌<◌, ◌≤◌, List, length, get_or, Ok, Err, Result}
+use Rattle.std.specs.Prelude.{◌≡◌, ℕ, ◌<◌, ◌≤◌, List, length, Ok, Err, Result}
 use Rattle.source.specs.declared.Refusal.{Refusal}
 use Rattle.source.specs.declared.Refusal.TheVariants.{Length, Value, Mark, Wide}
 use Rattle.source.specs.declared.Answer.{Answer}
 use Rattle.source.specs.declared.Answer.TheVariants.{Plan, Nothing}
-use Rattle.source.specs.Plans.{UpTo, Agrees, Serves}
+use Rattle.source.specs.Plans.{UpTo, Serves}
 
 -- pins, group and place are each as long as the width
 abbrev pub Fit : ℕ → List ℕ → List ℕ → List ℕ → Type 0

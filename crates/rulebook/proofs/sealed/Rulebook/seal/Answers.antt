@@ -2,7 +2,7 @@ use Rattle.std.proofs.Common.{◌≡◌, ℕ, ◌-◌, ◌*◌, ◌<◌, true, L
 use Rattle.std.proofs.lemmas.List.{length-take}
 use Rattle.rulebook.specs.declared.row.RuleRow.{RuleRow}
 use Rattle.rulebook.specs.Rows.{blank, row_in, padded}
-use Rattle.rulebook.specs.Sealing.{Sealing, done, refused}
+use Rattle.rulebook.specs.Sealing.{done, refused}
 use Rattle.rulebook.proofs.Padding.{padded_long}
 use Rattle.rulebook.proofs.Sound.{limits, sound, entered}
 use Rattle.rulebook.proofs.sealed.Rulebook.seal.Goals as goal
