@@ -3,7 +3,7 @@
 --   only_mark  the group of one statement
 --   told_by    what the answer of a question with that group says
 --   Told      what comes of asking whether a statement is certain
-use Rattle.std.specs.Prelude.{◌≡◌, ℕ, Bool, true, false, List, length, replicate, Ok, Err, Result, ◌≢◌, slice_index, slice_set}
+use Rattle.std.specs.Prelude.{◌≡◌, ℕ, Bool, true, false, List, replicate, Ok, Err, Result, ◌≢◌, slice_index, slice_set}
 use Rattle.source.specs.declared.Refusal.{Refusal}
 use Rattle.source.specs.declared.Answer.{Answer}
 use Rattle.source.specs.declared.Answer.TheVariants.{Plan, Nothing}
