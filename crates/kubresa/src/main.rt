@@ -14,6 +14,7 @@ use std::alloc::{AllocError, Global};
 use std::fs::File;
 use std::io;
 use std::io::{ErrorKind, Read, Write};
+use std::process::ExitCode;
 use text::{Draft, Fault, NameRow, RuleRow, Texts, name_of};
 
 const NAMES: usize = 512;
@@ -57,7 +58,7 @@ fn read_both<'a>(
     rules: &mut [RuleRow],
     entries: &mut [u16],
 ) -> Result<(), Fault>
-    ensures* { λ r. ⌜ (record { result = r; counts = counts_of draft.new; tables = record { names = names.exit.now; rules = rules.new; entries = entries.new } }) ≡ both_read (counts_of draft.old) texts.entry.region.now texts.entry.harbour.now (record { names = names.entry.now; rules = rules.old; entries = entries.old }) ⌝ }
+    ensures { (record { result = result; counts = counts_of draft.new; tables = record { names = names.new; rules = rules.new; entries = entries.new } }) ≡ both_read (counts_of draft.old) texts.entry.region.now texts.entry.harbour.now (record { names = names.old; rules = rules.old; entries = entries.old }) }
 {
     draft.read(texts.region, texts.region, names, rules, entries)?;
     draft.read(texts.harbour, texts.region, names, rules, entries)
@@ -137,7 +138,7 @@ fn output(
     rules: &mut [RuleRow],
     entries: &mut [u16],
 ) -> Result<Vec<u8>, AllocError>
-    ensures { IfOk result (λ v. v.items ≡ printed texts.entry.region.now texts.entry.harbour.now (both_read (record { texts = 0; names = 0; rules = 0; entries = 0 }) texts.entry.region.now texts.entry.harbour.now (record { names = names.entry.now; rules = rules.old; entries = entries.old }))) }
+    ensures { IfOk result (λ v. v.items ≡ printed texts.entry.region.now texts.entry.harbour.now (both_read (record { texts = 0; names = 0; rules = 0; entries = 0 }) texts.entry.region.now texts.entry.harbour.now (record { names = names.old; rules = rules.old; entries = entries.old }))) }
 {
     let mut draft = Draft::new();
     match read_both(&mut draft, texts, names, rules, entries) {
@@ -162,10 +163,13 @@ fn run(rt: &HostRuntime) -> anyhow::Result<()> {
     Ok(())
 }
 
-fn main(rt: HostRuntime) -> anyhow::Result<()> {
-    let result = run(&rt);
-    if let Err(e) = &result {
-        eprintln!(rt; "kubresa: {e}")?;
+// An error is written under the name of the program, and the status is then 1.
+fn main(rt: HostRuntime) -> anyhow::Result<ExitCode> {
+    match run(&rt) {
+        Ok(()) => Ok(ExitCode::SUCCESS),
+        Err(e) => {
+            eprintln!(rt; "kubresa: {e}")?;
+            Ok(ExitCode::FAILURE)
+        }
     }
-    result
 }

@@ -1,9 +1,8 @@
 -- Reading follows the phases.
-use Rattle.std.proofs.Common.{◌≡◌, ℕ, Bool, true, false, cond, List, length, take, Some, None, Option, refl, arith}
+use Rattle.std.proofs.Common.{◌≡◌, ℕ, List, length, take, Some, None, Option, refl, arith}
 use Rattle.std.proofs.lemmas.Bool.{cond_both}
 use Rattle.words.specs.Words.{Token, name, negation, arrow, comma, point}
-use Rattle.tables.specs.declared.Cause.{Cause}
-use Rattle.tables.specs.declared.Cause.TheVariants.{OutOfPlace, NoNameRow, NoEntryRow, NoRuleRow}
+use Rattle.tables.specs.declared.Cause.TheVariants.{OutOfPlace}
 use Rattle.tables.specs.declared.Phase.{Phase}
 use Rattle.tables.specs.declared.Phase.TheVariants.{Start, AfterHead, WantEntry, WantName, AfterEntry}
 use Rattle.tables.specs.Names.{found}

@@ -1,12 +1,12 @@
 -- What is left after a fault.
-use Rattle.std.proofs.Common.{◌≡◌, ℕ, List, length, Ok, Err, sym, refl, ap, ◌∙◌, subst, arith}
+use Rattle.std.proofs.Common.{◌≡◌, ℕ, List, length, Err, sym, refl, ap, ◌∙◌, subst, arith}
 use Rattle.words.specs.Running.{running}
 use Rattle.tables.specs.declared.Cause.{Cause}
 use Rattle.tables.specs.declared.Fault.{Fault}
-use Rattle.tables.specs.Feed.{Tables, Fed, off}
+use Rattle.tables.specs.Feed.{Tables, off}
 use Rattle.tables.specs.Reading.{run}
 use Rattle.tables.specs.Draft.{Counts, Outcome, line_of, cleared_tables, texts_for, stage_from, settled, taken}
-use Rattle.tables.proofs.Keeping.{Keeps, Above, run_keeps}
+use Rattle.tables.proofs.Keeping.{Keeps, run_keeps}
 
 abbrev stopped : Counts → Fault → Tables → Outcome
 stopped d f t = record { result = Err f; counts = d; tables = t }

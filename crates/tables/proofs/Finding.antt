@@ -1,10 +1,10 @@
 -- A name that is found stays found, and a new row is found.
-use Rattle.std.proofs.Common.{◌≡◌, ℕ, ◌+◌, ◌*◌, ◌<◌, ◌≤◌, Bool, true, false, cond, List, [], ◌∷◌, ◌++◌, length, take, Some, None, Option, sym, refl, ap, ◌∙◌, subst, append_assoc, arith}
-use Rattle.std.proofs.lemmas.Bool.{cond-true, cond-false, cond_both}
+use Rattle.std.proofs.Common.{◌≡◌, ℕ, ◌+◌, Bool, true, false, List, [], ◌∷◌, ◌++◌, length, Some, None, sym, refl, ap, ◌∙◌, append_assoc, arith}
+use Rattle.std.proofs.lemmas.Bool.{cond-true, cond-false}
 use Rattle.tables.specs.declared.NameRow.{NameRow}
 use Rattle.tables.specs.Names.{is_name, found}
 use Rattle.tables.specs.Feed.{Texts}
-use Rattle.tables.specs.Grammar.{Entry, entry, Head, headed, headless}
+use Rattle.tables.specs.Grammar.{Entry, Head}
 use Rattle.tables.proofs.Ruled.{Ext}
 use Rattle.tables.specs.Meaning.{Finds, Codes, bare, code, HeadIs, named, missing}
 

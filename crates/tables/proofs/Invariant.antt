@@ -1,5 +1,5 @@
 -- What each of the three writes keeps, reading keeps.
-use Rattle.std.proofs.Common.{◌≡◌, ℕ, ◌+◌, ◌-◌, ◌*◌, ◌≤◌, Bool, true, false, cond, List, [], ◌∷◌, ◌++◌, length, take, set, Some, None, Option, sym, refl, ap, ◌∙◌, subst}
+use Rattle.std.proofs.Common.{◌≡◌, ℕ, ◌+◌, ◌-◌, ◌*◌, false, List, length, take, set, Some, None, Option}
 use Rattle.std.proofs.lemmas.Bool.{cond_both}
 use Rattle.words.specs.Words.{Token, name, negation, arrow, comma, point}
 use Rattle.words.specs.Running.{Running, more, ended, wrong}

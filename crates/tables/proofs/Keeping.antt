@@ -1,5 +1,5 @@
 -- Reading leaves the rows below a draft's counts.
-use Rattle.std.proofs.Common.{◌≡◌, ℕ, ◌+◌, ◌-◌, ◌*◌, ◌≤◌, Bool, true, false, cond, List, [], ◌∷◌, ◌++◌, length, take, set, replicate, Some, None, Option, sym, refl, ap, ◌∙◌, arith}
+use Rattle.std.proofs.Common.{◌≡◌, ℕ, ◌+◌, ◌-◌, ◌*◌, ◌≤◌, List, ◌++◌, length, take, set, replicate, Some, None, Option, ◌∙◌, arith}
 use Rattle.std.proofs.lemmas.List.{take-set-le, length-set}
 use Rattle.std.proofs.lemmas.Bool.{cond_both}
 use Rattle.words.specs.Words.{Token, name, negation, arrow, comma, point}
@@ -7,7 +7,7 @@ use Rattle.words.specs.Running.{Running, more, ended, wrong}
 use Rattle.tables.specs.declared.Phase.{Phase}
 use Rattle.tables.specs.declared.Phase.TheVariants.{Start, AfterHead, WantEntry, WantName, AfterEntry}
 use Rattle.tables.specs.Names.{found}
-use Rattle.tables.specs.Feed.{Stage, Tables, Texts, Fed, on, off, full, new_row, Number, number, no_row, number_from, number_in, with_number, numbered, headed, entered, entered_as, closed, feed_in, feed, finished_in, finished}
+use Rattle.tables.specs.Feed.{Stage, Tables, Texts, Fed, on, off, full, new_row, number_from, with_number, numbered, headed, entered_as, closed, feed_in, feed, finished_in}
 use Rattle.tables.specs.Reading.{carry, run}
 use Rattle.tables.specs.Draft.{Counts, cleared, cleared_tables}
 

@@ -1,5 +1,5 @@
 -- Which names the rows have, as rows are added.
-use Rattle.std.proofs.Common.{◌≡◌, ℕ, ◌+◌, Bool, true, false, cond, ◌&&◌, ◌||◌, List, [], ◌∷◌, ◌++◌, is_some, Some, None, sym, refl, ap, ◌∙◌}
+use Rattle.std.proofs.Common.{◌≡◌, ℕ, ◌+◌, Bool, true, false, cond, ◌&&◌, ◌||◌, List, [], ◌∷◌, ◌++◌, is_some, Some, None, refl, ◌∙◌}
 use Rattle.tables.specs.declared.NameRow.{NameRow}
 use Rattle.tables.specs.Names.{same_name, is_name, found}
 use Rattle.tables.specs.Feed.{Texts, new_row}

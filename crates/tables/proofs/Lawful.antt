@@ -1,5 +1,5 @@
 -- The law of reading, from its parts.
-use Rattle.std.proofs.Common.{◌≡◌, ℕ, ◌+◌, ◌≤◌, Bool, true, false, cond, ◌||◌, ltb, leb, List, [], ◌∷◌, ◌++◌, length, take, Some, None, Ok, Err, Option, sym, refl, ap, ◌∙◌, subst, append_assoc, arith, ltb-false}
+use Rattle.std.proofs.Common.{◌≡◌, ℕ, ◌≤◌, Bool, true, false, cond, ◌||◌, ltb, leb, List, [], ◌∷◌, ◌++◌, length, take, Some, None, Ok, Err, Option, sym, refl, ap, ◌∙◌, subst, append_assoc, arith, ltb-false}
 use Rattle.std.proofs.lemmas.Bool.{cond_both, or_parts}
 use Rattle.words.specs.Words.{Token, name, negation, arrow, comma, point}
 use Rattle.words.specs.Running.{Running, more, ended, wrong, running}
@@ -15,8 +15,8 @@ use Rattle.tables.specs.Reading.{run}
 use Rattle.tables.specs.Grammar.{Spot, spot, spots, Rule, IsText}
 use Rattle.tables.specs.Beginnings.{Ended, EndsAt, Begins}
 use Rattle.tables.specs.Limits.{names_max, rules_max, entries_max}
-use Rattle.tables.specs.Room.{used_in, none_known, also_known, new_names, rules_in, entries_in, known_in, Within, NamesFit, Fits}
-use Rattle.tables.specs.Draft.{Counts, Outcome, line_of, cleared_tables, refused, refusal_of, short, texts_for, stage_from, settled, read_if, read_of}
+use Rattle.tables.specs.Room.{used_in, none_known, also_known, new_names, rules_in, entries_in, known_in, Within, Fits}
+use Rattle.tables.specs.Draft.{Counts, Outcome, line_of, refused, refusal_of, short, texts_for, stage_from, settled, read_if, read_of}
 use Rattle.tables.specs.Law.{WrittenAs, Means, Against, misplaced, no_name_row, no_entry_row, no_rule_row, FirstFault, at_word, at_end, at_no_word, Refuted, Reads}
 use Rattle.tables.proofs.Ruled.{Ruled}
 use Rattle.tables.proofs.Invariant.{Holds}

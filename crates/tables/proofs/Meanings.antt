@@ -1,5 +1,5 @@
 -- What the rules write says them.
-use Rattle.std.proofs.Common.{◌≡◌, ℕ, suc, ◌+◌, ◌-◌, ◌*◌, ◌<◌, ◌≤◌, Bool, true, false, cond, ◌||◌, leb, List, [], ◌∷◌, ◌++◌, length, take, set, Some, None, Option, sym, refl, ap, ◌∙◌, subst, append_assoc, append-nil, add-one, arith, length-append, take-suc-set, leb-false}
+use Rattle.std.proofs.Common.{◌≡◌, ℕ, ◌+◌, ◌-◌, ◌*◌, ◌<◌, ◌≤◌, true, false, leb, List, [], ◌∷◌, ◌++◌, length, take, set, Some, None, Option, sym, refl, ap, ◌∙◌, subst, append_assoc, append-nil, add-one, arith, length-append, take-suc-set, leb-false}
 use Rattle.std.proofs.lemmas.List.{length-set, length-take-le}
 use Rattle.std.proofs.lemmas.Bool.{cond_both, or_parts}
 use Rattle.tables.specs.declared.NameRow.{NameRow}
@@ -12,7 +12,7 @@ use Rattle.tables.specs.Grammar.{Entry, entry, Head, headed, headless, Rule, rul
 use Rattle.tables.proofs.Written.{write_entry, write_body, write_head, write_rule, written}
 use Rattle.tables.specs.Meaning.{Finds, Codes, bare, code, HeadIs, named, missing, Says, nothing, also}
 use Rattle.tables.proofs.Ruled.{Ext, rows_in, Ruled}
-use Rattle.tables.proofs.Finding.{ext_trans, finds_on, finds_new, codes_on, head_on}
+use Rattle.tables.proofs.Finding.{ext_trans, finds_new, codes_on, head_on}
 
 -- where reading goes on, Q holds
 abbrev pub On : (Stage → Tables → Type 0) → Fed → Type 0

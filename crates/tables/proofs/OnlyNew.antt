@@ -1,9 +1,9 @@
 -- Reading writes only new rows.
-use Rattle.std.proofs.Common.{◌≡◌, ℕ, ◌+◌, ◌<◌, ◌≤◌, Bool, true, false, ◌||◌, leb, List, length, take, drop, set, sym, refl, ap, ◌∙◌, subst, arith, leb-false}
+use Rattle.std.proofs.Common.{◌≡◌, ℕ, ◌+◌, ◌<◌, ◌≤◌, false, leb, List, length, drop, set, sym, refl, ap, ◌∙◌, arith, leb-false}
 use Rattle.std.proofs.lemmas.List.{take-set-le, drop-set-lt, drop-drop, length-set}
 use Rattle.std.proofs.lemmas.Bool.{or_parts}
 use Rattle.words.specs.Running.{Running}
-use Rattle.tables.specs.Feed.{Stage, Tables, Texts, Fed, on, off, full}
+use Rattle.tables.specs.Feed.{Tables, Texts, full}
 use Rattle.tables.specs.Reading.{run}
 use Rattle.tables.specs.Draft.{Counts, stage_from}
 use Rattle.tables.specs.Only.{Only, OnlyNew}

@@ -1,14 +1,14 @@
 -- Each name of a text is found by a row of its own.
-use Rattle.std.proofs.Common.{◌≡◌, ℕ, zero, suc, ◌+◌, ◌<◌, ◌≤◌, Bool, true, false, cond, ◌&&◌, eqb, ltb, leb, List, [], ◌∷◌, ◌++◌, length, take, drop, sym, refl, ap, ◌∙◌, subst, arith, length-drop, lt-ltb, le-leb}
+use Rattle.std.proofs.Common.{◌≡◌, ℕ, zero, suc, ◌+◌, ◌<◌, true, ◌&&◌, eqb, ltb, leb, List, [], ◌∷◌, ◌++◌, length, drop, sym, refl, ap, ◌∙◌, arith, length-drop, lt-ltb, le-leb}
 use Rattle.std.proofs.lemmas.Bool.{cond_both}
 use Rattle.words.specs.Words.{Token, name, negation, arrow, comma, point, Reading, word, end, fault, next_word}
-use Rattle.words.specs.Running.{Running, more, ended, wrong, onward, running_by, running}
+use Rattle.words.specs.Running.{Running, onward, running_by, running}
 use Rattle.words.proofs.Cut.{Cut, cut_from}
 use Rattle.words.proofs.Small.{inside_text}
-use Rattle.tables.specs.Names.{same_name, names, part_of, is_name}
+use Rattle.tables.specs.Names.{same_name, names, part_of}
 use Rattle.tables.proofs.Sameness.{same_self}
 use Rattle.tables.specs.Feed.{Texts, new_row}
-use Rattle.tables.specs.Grammar.{Spot, spot, spots, Entry, entry, Head, headed, headless, Rule, rule, IsEntry, plain, denied, IsBody, last, then, IsRule, fact, bar, whole, IsText, none, next}
+use Rattle.tables.specs.Grammar.{Spot, spot, spots, Entry, Head, Rule, rule, IsEntry, plain, denied, IsBody, last, then, IsRule, fact, bar, whole, IsText, none, next}
 use Rattle.tables.specs.Draft.{texts_for}
 use Rattle.tables.proofs.Meanings.{Own, OwnEntry, OwnBody, OwnHead, OwnRules}
 

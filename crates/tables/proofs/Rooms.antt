@@ -1,5 +1,5 @@
 -- Reading counts what its words bring, and stops where that finds no row.
-use Rattle.std.proofs.Common.{◌≡◌, ℕ, ◌+◌, ◌-◌, ◌*◌, ◌<◌, ◌≤◌, Bool, true, false, cond, ◌||◌, leb, ◌⊎◌, List, [], ◌∷◌, ◌++◌, length, take, set, is_some, Some, None, Option, sym, refl, ap, ◌∙◌, subst, inl, inr, ⊎_elim, append_assoc, append-nil, arith, length-append, leb-false, leb-true}
+use Rattle.std.proofs.Common.{◌≡◌, ℕ, ◌+◌, ◌-◌, ◌*◌, ◌<◌, ◌≤◌, Bool, true, false, ◌||◌, leb, ◌⊎◌, List, [], ◌∷◌, ◌++◌, length, take, set, is_some, Some, None, Option, sym, refl, ap, ◌∙◌, subst, inl, inr, ⊎_elim, append_assoc, append-nil, arith, length-append, leb-false, leb-true}
 use Rattle.std.proofs.lemmas.List.{length-set, length-take-le}
 use Rattle.std.proofs.lemmas.Bool.{cond_both, cond-true, cond-false, or_parts}
 use Rattle.words.specs.Words.{Token, name, negation, arrow, comma, point}
@@ -11,7 +11,7 @@ use Rattle.tables.specs.declared.Cause.TheVariants.{OutOfPlace, NoNameRow, NoEnt
 use Rattle.tables.specs.declared.Phase.{Phase}
 use Rattle.tables.specs.declared.Phase.TheVariants.{Start, AfterHead, WantEntry, WantName, AfterEntry}
 use Rattle.tables.specs.Names.{found}
-use Rattle.tables.specs.Feed.{Stage, Tables, Texts, Fed, on, off, full, new_row, number_from, with_number, numbered, headed, entered_as, closed, feed_in, feed, finished_in, finished}
+use Rattle.tables.specs.Feed.{Stage, Tables, Texts, Fed, on, off, full, new_row, number_from, with_number, numbered, headed, entered_as, closed, feed_in, feed, finished_in}
 use Rattle.tables.specs.Reading.{stop_of, carry, run}
 use Rattle.tables.specs.Grammar.{Spot, spot, spots}
 use Rattle.tables.specs.Beginnings.{Ended, EndsAt}

@@ -1,15 +1,13 @@
 -- Reading the words of a text writes its rules.
-use Rattle.std.proofs.Common.{◌≡◌, ℕ, Bool, true, false, cond, List, [], ◌∷◌, ◌++◌, length, take, Some, None, Option, sym, refl, ap, ◌∙◌, subst, arith}
-use Rattle.std.proofs.lemmas.Bool.{cond_both}
-use Rattle.words.specs.Words.{Token, name, negation, arrow, comma, point}
+use Rattle.std.proofs.Common.{◌≡◌, ℕ, List, [], ◌∷◌, ◌++◌, Some, sym, refl, ap, ◌∙◌, subst}
+use Rattle.words.specs.Words.{Token, arrow, comma, point}
 use Rattle.words.specs.Running.{Running, more, ended, wrong}
 use Rattle.tables.specs.declared.Phase.{Phase}
 use Rattle.tables.specs.declared.Phase.TheVariants.{Start, AfterHead, WantEntry, WantName, AfterEntry}
-use Rattle.tables.specs.Names.{found}
 use Rattle.tables.specs.Feed as F
 use Rattle.tables.specs.Feed.{Stage, Tables, Texts, Fed, on, off, full, at_phase, Number, number, no_row, number_in, with_number, numbered, entered_as, closed, feed_in, feed, finished_in, finished}
 use Rattle.tables.specs.Reading.{carry, run}
-use Rattle.tables.specs.Grammar.{Spot, spot, spots, Entry, entry, Head, headed, headless, Rule, rule, IsEntry, plain, denied, IsBody, last, then, IsRule, fact, bar, whole, IsText, none, next}
+use Rattle.tables.specs.Grammar.{Spot, spot, spots, Entry, entry, Rule, rule, IsEntry, plain, denied, IsBody, last, then, IsRule, fact, bar, whole, IsText, none, next}
 use Rattle.tables.specs.Beginnings.{Ended}
 use Rattle.tables.proofs.Written.{write_entry, write_body, write_head, write_rule, written}
 use Rattle.tables.proofs.Agrees.{Agrees, numbered_agrees, entered_agrees, closed_agrees}

@@ -1,6 +1,6 @@
 -- What the rules of a text leave in the tables, rule by rule, with no words and no phases.
-use Rattle.std.proofs.Common.{ℕ, List, [], ◌∷◌}
-use Rattle.tables.specs.Feed.{Stage, Tables, Texts, Fed, on, off, numbered, headed, headless, entered_as, closed}
+use Rattle.std.proofs.Common.{List, [], ◌∷◌}
+use Rattle.tables.specs.Feed.{Stage, Tables, Texts, Fed, on, numbered, headed, headless, entered_as, closed}
 use Rattle.tables.specs.Reading.{carry}
 use Rattle.tables.specs.Grammar as G
 use Rattle.tables.specs.Grammar.{Entry, entry, Head, Rule, rule}

@@ -1,10 +1,10 @@
 -- Small texts, read by computing.
-use Rattle.std.specs.Prelude.{◌≡◌, ℕ, List, [], ◌∷◌, replicate, Ok, Err, codes, refl}
-use Rattle.words.specs.Words.{name, negation, arrow, comma, point}
-use Rattle.words.specs.Running.{running, more, ended, wrong}
-use Rattle.tables.specs.declared.Cause.TheVariants.{OutOfPlace, NoNameRow}
+use Rattle.std.specs.Prelude.{◌≡◌, [], ◌∷◌, replicate, Ok, Err, codes, refl}
+use Rattle.words.specs.Words.{name, negation, arrow, point}
+use Rattle.words.specs.Running.{running, more, ended}
+use Rattle.tables.specs.declared.Cause.TheVariants.{OutOfPlace}
 use Rattle.tables.specs.Feed.{Tables}
-use Rattle.tables.specs.Draft.{Counts, Outcome, read_of}
+use Rattle.tables.specs.Draft.{Counts, read_of}
 use Rattle.rulebook.specs.Rows.{blank}
 use Rattle.tables.specs.Names.{blank_name}
 

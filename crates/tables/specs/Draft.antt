@@ -1,8 +1,7 @@
 -- What reading a text into a draft does: the result, the draft and the tables then.
-use Rattle.std.specs.Prelude.{ℕ, ◌+◌, ◌-◌, min, Bool, true, false, cond, ◌||◌, List, [], ◌∷◌, ◌++◌, length, take, replicate, Some, None, Ok, Err, count_by, Option, Result, ◌==◌, nat_le, nat_lt}
+use Rattle.std.specs.Prelude.{ℕ, ◌+◌, ◌-◌, min, Bool, cond, ◌||◌, List, [], ◌++◌, length, take, replicate, Some, None, Ok, Err, count_by, Option, Result, ◌==◌, nat_le, nat_lt}
 use Rattle.words.specs.Words.{ends_line}
 use Rattle.words.specs.Running.{running}
-use Rattle.rulebook.specs.declared.row.RuleRow.{RuleRow}
 use Rattle.tables.specs.declared.Fault.{Fault}
 use Rattle.tables.specs.declared.Cause.{Cause}
 use Rattle.tables.specs.declared.Cause.TheVariants.{LongText, ThirdText, ShortTable}

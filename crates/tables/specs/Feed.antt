@@ -1,5 +1,5 @@
 -- What one word does to what has been read: which word may stand where, what it writes, and where reading stops.
-use Rattle.std.specs.Prelude.{ℕ, ◌+◌, ◌-◌, ◌*◌, Bool, true, false, cond, ◌||◌, List, [], ◌∷◌, length, take, Some, None, Option, nat_le, slice_set}
+use Rattle.std.specs.Prelude.{ℕ, ◌+◌, ◌-◌, ◌*◌, Bool, cond, ◌||◌, List, length, take, Some, None, Option, nat_le, slice_set}
 use Rattle.words.specs.Words.{Token, name, negation, arrow, comma, point}
 use Rattle.tables.specs.declared.NameRow.{NameRow}
 use Rattle.rulebook.specs.declared.row.RuleRow.{RuleRow}

@@ -4,7 +4,6 @@ use Rattle.words.specs.Running.{Running, more, ended, wrong}
 use Rattle.words.specs.declared.Fault.{Fault}
 use Rattle.words.specs.declared.Fault.TheVariants.{NoWord, LongName}
 use Rattle.tables.specs.declared.Stop.{Stop}
-use Rattle.tables.specs.declared.Cause.{Cause}
 use Rattle.tables.specs.declared.Cause.TheVariants as Why
 use Rattle.tables.specs.Feed.{Stage, Tables, Texts, Fed, on, off, feed, finished}
 

@@ -1,6 +1,6 @@
 -- What the words of a text bring (names used for the first time, rules, entries), and whether there are rows for it.
 use Rattle.std.specs.Prelude.{ℕ, ◌+◌, ◌≤◌, Bool, true, false, cond, ◌||◌, List, [], ◌∷◌, length, take, is_some}
-use Rattle.words.specs.Words.{Token, name, negation, arrow, comma, point}
+use Rattle.words.specs.Words.{name, negation, arrow, comma, point}
 use Rattle.tables.specs.declared.NameRow.{NameRow}
 use Rattle.tables.specs.Limits.{names_max, rules_max, entries_max}
 use Rattle.tables.specs.Names.{same_name, found}

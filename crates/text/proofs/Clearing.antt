@@ -1,5 +1,5 @@
 -- A table is cleared row by row.
-use Rattle.std.proofs.Common.{◌≡◌, ℕ, suc, ◌+◌, ◌-◌, ◌<◌, ◌≤◌, List, [], ◌∷◌, ◌++◌, length, take, set, replicate, sym, refl, ap, ◌∙◌, append_assoc, append-nil, add-one, arith, take-suc-set}
+use Rattle.std.proofs.Common.{◌≡◌, ℕ, suc, ◌+◌, ◌-◌, ◌<◌, ◌≤◌, List, [], ◌∷◌, ◌++◌, length, take, set, replicate, ap, ◌∙◌, append_assoc, append-nil, add-one, arith, take-suc-set}
 use Rattle.std.proofs.lemmas.List.{length-set, take_all}
 use Rattle.tables.specs.Draft.{cleared}
 

@@ -1,10 +1,10 @@
 -- One word more of a text.
-use Rattle.std.proofs.Common.{◌≡◌, ℕ, ◌+◌, ◌<◌, ◌≤◌, List, sym, refl, ap, ◌∙◌}
+use Rattle.std.proofs.Common.{◌≡◌, ℕ, List, sym, ap, ◌∙◌}
 use Rattle.words.specs.declared.Fault.{Fault}
 use Rattle.words.specs.Words.{Token, word, end, fault, next_word}
 use Rattle.words.specs.Running.{running}
 use Rattle.words.proofs.Runs.{running_more, running_ended, running_wrong}
-use Rattle.tables.specs.Feed.{Stage, Tables, Texts, Fed, on, off, feed, finished}
+use Rattle.tables.specs.Feed.{Stage, Tables, Texts, Fed, off, feed, finished}
 use Rattle.tables.specs.Reading.{stop_of, carry, run}
 
 module _ (x : Texts) (n : ℕ) (text : List ℕ) (from : ℕ) (s : Stage) (t : Tables) where

@@ -19,7 +19,7 @@ pub(crate) fn scan(
     entries: &mut [u16],
 ) -> Result<(), Stop>
     requires { (progress.old.names ≤ length names.old) × (length text.now ≤ 65536) }
-    ensures { fed result (stage_of progress.new) (record { names = names.exit.now; rules = rules.new; entries = entries.new }) ≡ run (texts_of reading.entry) (length text.now) (stage_of progress.old) (record { names = names.entry.now; rules = rules.old; entries = entries.old }) (running text.now 0) }
+    ensures { fed result (stage_of progress.new) (record { names = names.new; rules = rules.new; entries = entries.new }) ≡ run (texts_of reading.entry) (length text.now) (stage_of progress.old) (record { names = names.old; rules = rules.old; entries = entries.old }) (running text.now 0) }
 {
     let mut reader = Reader::new(text);
     while let Some(word) = reader.next()? {

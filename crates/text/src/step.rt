@@ -56,7 +56,7 @@ impl Progress {
         names: &mut [NameRow],
     ) -> Result<(), Stop>
         requires { (self.old.names ≤ length names.old) × ((at < 65536) × (length bytes.now ≤ 32)) }
-        ensures says { (rules : List RuleRow) (entries : List ℕ) → fed result (stage_of self.new) (record { names = names.exit.now; rules = rules; entries = entries }) ≡ numbered (texts_of reading.entry) bytes.now at headed (stage_of self.old) (record { names = names.entry.now; rules = rules; entries = entries }) }
+        ensures says { (rules : List RuleRow) (entries : List ℕ) → fed result (stage_of self.new) (record { names = names.new; rules = rules; entries = entries }) ≡ numbered (texts_of reading.entry) bytes.now at headed (stage_of self.old) (record { names = names.old; rules = rules; entries = entries }) }
         ensures room { self.new.names ≤ length names.new }
     {
         let Some((n, count)) = number(self.names, bytes, at, reading, names) else {
@@ -99,7 +99,7 @@ impl Progress {
         entries: &mut [u16],
     ) -> Result<(), Stop>
         requires { (self.old.names ≤ length names.old) × ((at < 65536) × ((length bytes.now ≤ 32) × (sign ≤ 1))) }
-        ensures says { (rules : List RuleRow) → fed result (stage_of self.new) (record { names = names.exit.now; rules = rules; entries = entries.new }) ≡ numbered (texts_of reading.entry) bytes.now at (entered_as at sign) (stage_of self.old) (record { names = names.entry.now; rules = rules; entries = entries.old }) }
+        ensures says { (rules : List RuleRow) → fed result (stage_of self.new) (record { names = names.new; rules = rules; entries = entries.new }) ≡ numbered (texts_of reading.entry) bytes.now at (entered_as at sign) (stage_of self.old) (record { names = names.old; rules = rules; entries = entries.old }) }
         ensures room { self.new.names ≤ length names.new }
     {
         let Some((n, count)) = number(self.names, bytes, at, reading, names) else {
@@ -153,7 +153,7 @@ impl Progress {
         entries: &mut [u16],
     ) -> Result<(), Stop>
         requires { (self.old.names ≤ length names.old) × ((place_of word < 65536) × (size_of (token_of word) ≤ 32)) }
-        ensures says { fed result (stage_of self.new) (record { names = names.exit.now; rules = rules.new; entries = entries.new }) ≡ feed (texts_of reading.entry) (token_of word.entry) (place_of word.entry) (stage_of self.old) (record { names = names.entry.now; rules = rules.old; entries = entries.old }) }
+        ensures says { fed result (stage_of self.new) (record { names = names.new; rules = rules.new; entries = entries.new }) ≡ feed (texts_of reading.entry) (token_of word.entry) (place_of word.entry) (stage_of self.old) (record { names = names.old; rules = rules.old; entries = entries.old }) }
         ensures room { self.new.names ≤ length names.new }
     {
         match (self.phase, word) {

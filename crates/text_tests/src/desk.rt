@@ -73,21 +73,23 @@ impl Desk {
     // The draft's numbers.
     pub fn counts(
         &self,
+        rt: &impl Abort,
         texts: u8,
         names: usize,
         rules: usize,
         entries: usize,
     ) -> Result<(), Fail> {
-        assert_eq!(self.draft.texts(), texts);
-        assert_eq!(self.draft.names(), names);
-        assert_eq!(self.draft.rules(), rules);
-        assert_eq!(self.draft.entries(), entries);
+        assert_eq!(rt; self.draft.texts(), texts);
+        assert_eq!(rt; self.draft.names(), names);
+        assert_eq!(rt; self.draft.rules(), rules);
+        assert_eq!(rt; self.draft.entries(), entries);
         Ok(())
     }
 
     // Every row from these on has these values, in all three tables.
     fn hold(
         &self,
+        rt: &impl Abort,
         names: usize,
         rules: usize,
         entries: usize,
@@ -95,27 +97,28 @@ impl Desk {
         value: u16,
     ) -> Result<(), Fail> {
         for row in self.names.iter().skip(names) {
-            assert!(row.text == text && row.first == value && row.size == value);
+            assert!(rt; row.text == text && row.first == value && row.size == value);
         }
         for row in self.rules.iter().skip(rules) {
-            assert!(row.head == value && row.first == value && row.count == value);
+            assert!(rt; row.head == value && row.first == value && row.count == value);
         }
         for code in self.entries.iter().skip(entries) {
-            assert!(*code == value);
+            assert!(rt; *code == value);
         }
         Ok(())
     }
 
     // Every row past the counts is zero.
-    pub fn blank(&self) -> Result<(), Fail> {
+    pub fn blank(&self, rt: &impl Abort) -> Result<(), Fail> {
         let draft = &self.draft;
-        self.hold(draft.names(), draft.rules(), draft.entries(), 0, 0)
+        self.hold(rt, draft.names(), draft.rules(), draft.entries(), 0, 0)
     }
 
     // Every row past the counts is as it was lent.
-    pub fn untouched(&self) -> Result<(), Fail> {
+    pub fn untouched(&self, rt: &impl Abort) -> Result<(), Fail> {
         let draft = &self.draft;
         self.hold(
+            rt,
             draft.names(),
             draft.rules(),
             draft.entries(),
@@ -125,8 +128,8 @@ impl Desk {
     }
 
     // Every row at all is as it was lent.
-    pub fn unwritten(&self) -> Result<(), Fail> {
-        self.hold(0, 0, 0, TEXT_MARK, MARK)
+    pub fn unwritten(&self, rt: &impl Abort) -> Result<(), Fail> {
+        self.hold(rt, 0, 0, 0, TEXT_MARK, MARK)
     }
 }
 
@@ -170,12 +173,13 @@ pub fn region_refused(
 ) -> Result<(), Fail> {
     let mut desk = Desk::new(heap, 8, 8, 8)?;
     refused(rt, desk.region(text), number, 0, byte, line)?;
-    desk.counts(0, 0, 0, 0)?;
-    desk.blank()
+    desk.counts(rt, 0, 0, 0, 0)?;
+    desk.blank(rt)
 }
 
 // A region's text is read whole, with these counts of names, rules and entries; the other rows stay as they are.
 pub fn region_counts(
+    rt: &impl Abort,
     heap: Global,
     text: &[u8],
     names: usize,
@@ -184,8 +188,8 @@ pub fn region_counts(
 ) -> Result<(), Fail> {
     let mut desk = Desk::new(heap, 8, 8, 8)?;
     accepted(desk.region(text))?;
-    desk.counts(1, names, rules, entries)?;
-    desk.untouched()
+    desk.counts(rt, 1, names, rules, entries)?;
+    desk.untouched(rt)
 }
 
 // A unit, so many times.

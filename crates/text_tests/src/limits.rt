@@ -9,12 +9,12 @@ fn a_text_has_65536_bytes_at_most(rt: HostRuntime) -> Result<(), Fail> {
     text.extend_from_slice(b"a.")?;
     let mut desk = Desk::large(heap)?;
     accepted(desk.region(&text))?;
-    desk.counts(1, 1, 1, 0)?;
+    desk.counts(&rt, 1, 1, 1, 0)?;
     name_row(&rt, desk.names.get(0), 0, 65534, 1)?;
     text.push(b' ')?;
     refused(&rt, desk.harbour(&text, b""), 14, 1, 0, 1)?;
-    desk.counts(1, 1, 1, 0)?;
-    desk.untouched()
+    desk.counts(&rt, 1, 1, 1, 0)?;
+    desk.untouched(&rt)
 }
 
 #[test]
@@ -31,8 +31,8 @@ fn a_text_too_long_is_refused_unread(rt: HostRuntime) -> Result<(), Fail> {
     let text = repeated(heap, b";", 65537)?;
     let mut desk = Desk::new(heap, 8, 8, 8)?;
     refused(&rt, desk.region(&text), 14, 0, 0, 1)?;
-    desk.counts(0, 0, 0, 0)?;
-    desk.untouched()
+    desk.counts(&rt, 0, 0, 0, 0)?;
+    desk.untouched(&rt)
 }
 
 #[test]
@@ -45,8 +45,8 @@ fn there_are_512_names_at_most_over_both_texts(rt: HostRuntime) -> Result<(), Fa
     let size = harbour.len();
     harbour.extend_from_slice(b"x.")?;
     refused(&rt, desk.harbour(&harbour, &region), 23, 1, size, 1)?;
-    desk.counts(1, 300, 300, 0)?;
-    desk.blank()
+    desk.counts(&rt, 1, 300, 300, 0)?;
+    desk.blank(&rt)
 }
 
 #[test]
@@ -58,9 +58,9 @@ fn a_name_that_has_a_number_needs_no_row(rt: HostRuntime) -> Result<(), Fail> {
     let mut harbour = facts(heap, 299, 512)?;
     harbour.extend_from_slice(b"n0 :- n511.")?;
     accepted(desk.harbour(&harbour, &region))?;
-    desk.counts(2, 512, 514, 1)?;
+    desk.counts(&rt, 2, 512, 514, 1)?;
     assert_eq!(rt; desk.entries.get(0).copied(), Some(1022));
-    desk.untouched()
+    desk.untouched(&rt)
 }
 
 #[test]
@@ -76,8 +76,8 @@ fn the_513th_name_of_one_text_is_refused(rt: HostRuntime) -> Result<(), Fail> {
         text.len().saturating_sub(5),
         1,
     )?;
-    desk.counts(0, 0, 0, 0)?;
-    desk.blank()
+    desk.counts(&rt, 0, 0, 0, 0)?;
+    desk.blank(&rt)
 }
 
 #[test]
@@ -86,13 +86,13 @@ fn there_are_2048_rules_at_most(rt: HostRuntime) -> Result<(), Fail> {
     let mut text = repeated(heap, b"a.\n", 2048)?;
     let mut desk = Desk::large(heap)?;
     accepted(desk.region(&text))?;
-    desk.counts(1, 1, 2048, 0)?;
-    desk.untouched()?;
+    desk.counts(&rt, 1, 1, 2048, 0)?;
+    desk.untouched(&rt)?;
     text.extend_from_slice(b"a .")?;
     let mut other = Desk::large(heap)?;
     refused(&rt, other.region(&text), 25, 0, 6146, 2049)?;
-    other.counts(0, 0, 0, 0)?;
-    other.blank()
+    other.counts(&rt, 0, 0, 0, 0)?;
+    other.blank(&rt)
 }
 
 #[test]
@@ -101,11 +101,11 @@ fn there_are_8192_entries_at_most(rt: HostRuntime) -> Result<(), Fail> {
     let region = repeated(heap, b"a:-a,a,a,a,a,a,a,a.", 1024)?;
     let mut desk = Desk::large(heap)?;
     accepted(desk.region(&region))?;
-    desk.counts(1, 1, 1024, 8192)?;
-    desk.untouched()?;
+    desk.counts(&rt, 1, 1, 1024, 8192)?;
+    desk.untouched(&rt)?;
     refused(&rt, desk.harbour(b"a. :-\nnot a.", &region), 24, 1, 10, 2)?;
-    desk.counts(1, 1, 1024, 8192)?;
-    desk.blank()
+    desk.counts(&rt, 1, 1, 1024, 8192)?;
+    desk.blank(&rt)
 }
 
 #[test]
@@ -116,6 +116,6 @@ fn one_rule_may_have_all_entries(rt: HostRuntime) -> Result<(), Fail> {
     text.push(b'.')?;
     let mut desk = Desk::large(heap)?;
     accepted(desk.region(&text))?;
-    desk.counts(1, 1, 1, 8192)?;
+    desk.counts(&rt, 1, 1, 1, 8192)?;
     rule_row(&rt, desk.rules.get(0), 65535, 0, 8192)
 }

@@ -100,7 +100,7 @@ fn what_was_read_is_found_and_named(rt: HostRuntime) -> Result<(), Fail> {
     assert_eq!(rt; find(b"b2", count, &desk.names, texts), None);
     match name_of(2, count, &desk.names, texts) {
         Some(name) => {
-            assert!(rt; name == b"b22");
+            assert!(rt; name == b"b22".as_slice());
             Ok(())
         },
         None => Err(Fail::new("no name")),

@@ -9,30 +9,30 @@ use text::Draft;
 fn a_full_table_of_names_refuses_a_new_one(rt: HostRuntime) -> Result<(), Fail> {
     let mut desk = Desk::new(rt.alloc(), 2, 8, 8)?;
     refused(&rt, desk.region(b"a. b :- not\nc."), 23, 0, 12, 2)?;
-    desk.counts(0, 0, 0, 0)?;
-    desk.blank()?;
+    desk.counts(&rt, 0, 0, 0, 0)?;
+    desk.blank(&rt)?;
     accepted(desk.region(b"a. b :- not\na."))?;
-    desk.counts(1, 2, 2, 1)
+    desk.counts(&rt, 1, 2, 2, 1)
 }
 
 #[test]
 fn a_full_table_of_entries_refuses_another(rt: HostRuntime) -> Result<(), Fail> {
     let mut desk = Desk::new(rt.alloc(), 8, 8, 2)?;
     refused(&rt, desk.region(b"a :- b, b,\nnot b."), 24, 0, 15, 2)?;
-    desk.counts(0, 0, 0, 0)?;
-    desk.blank()?;
+    desk.counts(&rt, 0, 0, 0, 0)?;
+    desk.blank(&rt)?;
     accepted(desk.region(b"a :- b, not b."))?;
-    desk.counts(1, 2, 1, 2)
+    desk.counts(&rt, 1, 2, 1, 2)
 }
 
 #[test]
 fn a_full_table_of_rules_refuses_another(rt: HostRuntime) -> Result<(), Fail> {
     let mut desk = Desk::new(rt.alloc(), 8, 1, 8)?;
     refused(&rt, desk.region(b"a :- b.\nb ."), 25, 0, 10, 2)?;
-    desk.counts(0, 0, 0, 0)?;
-    desk.blank()?;
+    desk.counts(&rt, 0, 0, 0, 0)?;
+    desk.blank(&rt)?;
     accepted(desk.region(b"a :- b.\n"))?;
-    desk.counts(1, 2, 1, 1)
+    desk.counts(&rt, 1, 2, 1, 1)
 }
 
 #[test]
@@ -42,7 +42,7 @@ fn tables_without_rows_take_a_text_without_rules(rt: HostRuntime) -> Result<(), 
     refused(&rt, desk.region(b"a."), 23, 0, 0, 1)?;
     refused(&rt, desk.region(b"."), 22, 0, 0, 1)?;
     accepted(desk.region(b"% nothing"))?;
-    desk.counts(1, 0, 0, 0)
+    desk.counts(&rt, 1, 0, 0, 0)
 }
 
 // A name out of place is so even where no row is left for it.
@@ -75,8 +75,8 @@ fn a_third_text_is_refused(rt: HostRuntime) -> Result<(), Fail> {
     accepted(desk.region(b"a."))?;
     accepted(desk.harbour(b"b.", b"a."))?;
     refused(&rt, desk.harbour(b";", b"a."), 15, 1, 0, 1)?;
-    desk.counts(2, 2, 2, 0)?;
-    desk.untouched()?;
+    desk.counts(&rt, 2, 2, 2, 0)?;
+    desk.untouched(&rt)?;
     let long = repeated(heap, b" ", 65537)?;
     refused(&rt, desk.harbour(&long, b"a."), 14, 1, 0, 1)
 }
@@ -104,8 +104,8 @@ fn too_short(
     let mut desk = Desk::new(heap, names, rules, entries)?;
     desk.draft = draft;
     refused(rt, desk.harbour(b";", b"a :- b."), 16, 1, 0, 1)?;
-    desk.counts(1, 2, 1, 1)?;
-    desk.unwritten()?;
+    desk.counts(rt, 1, 2, 1, 1)?;
+    desk.unwritten(rt)?;
     Ok(desk.draft)
 }
 
@@ -126,6 +126,6 @@ fn tables_exactly_as_long_as_their_counts_serve(rt: HostRuntime) -> Result<(), F
     let region = b"a :- b.";
     accepted(desk.region(region))?;
     accepted(desk.harbour(b"% nothing more", region))?;
-    desk.counts(2, 2, 1, 1)?;
+    desk.counts(&rt, 2, 2, 1, 1)?;
     name_row(&rt, desk.names.get(1), 0, 5, 1)
 }

@@ -20,7 +20,7 @@ fn a_colon_is_a_word_only_with_a_hyphen_after_it(rt: HostRuntime) -> Result<(), 
     region_refused(&rt, heap, b"a : - b.", 20, 2, 1)?;
     region_refused(&rt, heap, b"a :", 20, 2, 1)?;
     region_refused(&rt, heap, b"a - b.", 20, 2, 1)?;
-    region_counts(heap, b"a:-b.", 2, 1, 1)
+    region_counts(&rt, heap, b"a:-b.", 2, 1, 1)
 }
 
 #[test]
@@ -30,7 +30,7 @@ fn a_name_of_32_bytes_is_read(rt: HostRuntime) -> Result<(), Fail> {
     text.push(b'.')?;
     let mut desk = Desk::new(heap, 8, 8, 8)?;
     accepted(desk.region(&text))?;
-    desk.counts(1, 1, 1, 0)?;
+    desk.counts(&rt, 1, 1, 1, 0)?;
     name_row(&rt, desk.names.get(0), 0, 0, 32)
 }
 
@@ -61,15 +61,15 @@ fn not_is_a_mark_and_nota_a_name(rt: HostRuntime) -> Result<(), Fail> {
     let heap = rt.alloc();
     region_refused(&rt, heap, b"not.", 22, 0, 1)?;
     region_refused(&rt, heap, b"not :- a.", 22, 0, 1)?;
-    region_counts(heap, b"nota.", 1, 1, 0)?;
-    region_counts(heap, b"nota :- not nota, no, not_.", 3, 1, 3)
+    region_counts(&rt, heap, b"nota.", 1, 1, 0)?;
+    region_counts(&rt, heap, b"nota :- not nota, no, not_.", 3, 1, 3)
 }
 
 #[test]
 fn blanks_part_words(rt: HostRuntime) -> Result<(), Fail> {
     let heap = rt.alloc();
-    region_counts(heap, b"\ta\t:-\r\n not\nb ,c\t.\r", 3, 1, 2)?;
-    region_counts(heap, b"a:-notb,c.", 3, 1, 2)?;
+    region_counts(&rt, heap, b"\ta\t:-\r\n not\nb ,c\t.\r", 3, 1, 2)?;
+    region_counts(&rt, heap, b"a:-notb,c.", 3, 1, 2)?;
     region_refused(&rt, heap, b"a\x0b.", 20, 1, 1)
 }
 
@@ -77,7 +77,7 @@ fn blanks_part_words(rt: HostRuntime) -> Result<(), Fail> {
 #[test]
 fn lines_end_at_line_feeds(rt: HostRuntime) -> Result<(), Fail> {
     let heap = rt.alloc();
-    region_counts(heap, b"a.\r\nb :- a.\r\n", 2, 2, 1)?;
+    region_counts(&rt, heap, b"a.\r\nb :- a.\r\n", 2, 2, 1)?;
     region_refused(&rt, heap, b"a.\r\nb.\r\n;", 20, 8, 3)?;
     region_refused(&rt, heap, b"a.\r;", 20, 3, 1)
 }
@@ -85,15 +85,15 @@ fn lines_end_at_line_feeds(rt: HostRuntime) -> Result<(), Fail> {
 #[test]
 fn a_comment_runs_to_the_line_feed_or_the_end(rt: HostRuntime) -> Result<(), Fail> {
     let heap = rt.alloc();
-    region_counts(heap, b"a. % so; IT goes: \xff % on", 1, 1, 0)?;
-    region_counts(heap, b"%", 0, 0, 0)?;
-    region_counts(heap, b"a% here\n.", 1, 1, 0)?;
+    region_counts(&rt, heap, b"a. % so; IT goes: \xff % on", 1, 1, 0)?;
+    region_counts(&rt, heap, b"%", 0, 0, 0)?;
+    region_counts(&rt, heap, b"a% here\n.", 1, 1, 0)?;
     region_refused(&rt, heap, b"% x\r;\n;", 20, 6, 2)
 }
 
 #[test]
 fn a_text_may_say_nothing(rt: HostRuntime) -> Result<(), Fail> {
     let heap = rt.alloc();
-    region_counts(heap, b"", 0, 0, 0)?;
-    region_counts(heap, b" \t\r\n", 0, 0, 0)
+    region_counts(&rt, heap, b"", 0, 0, 0)?;
+    region_counts(&rt, heap, b" \t\r\n", 0, 0, 0)
 }

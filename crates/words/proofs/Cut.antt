@@ -1,12 +1,11 @@
 -- A name is cut from its text at its place.
-use Rattle.std.proofs.Common.{◌≡◌, ℕ, ◌+◌, ◌<◌, ◌≤◌, min, Bool, true, false, cond, eqb, ltb, List, [], ◌∷◌, length, take, drop, codes, sym, refl, ap, ◌∙◌, subst, arith, length-drop, length-take}
+use Rattle.std.proofs.Common.{◌≡◌, ℕ, ◌+◌, ◌<◌, ◌≤◌, false, eqb, ltb, List, [], ◌∷◌, length, take, drop, codes, sym, ap, subst, arith, length-take}
 use Rattle.std.specs.List.{prefix_len}
 use Rattle.std.specs.Str.{bytes_eq}
 use Rattle.std.proofs.lemmas.List.Sums.{prefix_len-le-length}
 use Rattle.std.proofs.lemmas.Bool.{cond-true, cond_both, or_left}
-use Rattle.words.specs.declared.Fault.{Fault}
-use Rattle.words.specs.Words.{Token, name, negation, comma, point, arrow, Reading, word, end, fault, is_letter, is_name_byte, is_arrow, blanks, name_token, word_at, next_word}
-use Rattle.words.proofs.Small.{inside_text, place_of_lem}
+use Rattle.words.specs.Words.{Token, name, negation, comma, point, arrow, Reading, word, is_letter, is_name_byte, is_arrow, blanks, name_token, word_at, next_word}
+use Rattle.words.proofs.Small.{place_of_lem}
 
 pub record Cut (s bs : List ℕ) : Type 0 where
   pub bytes : bs ≡ take (length bs) s

@@ -1,9 +1,9 @@
 -- A word ends past where its reading began.
-use Rattle.std.proofs.Common.{◌≡◌, ℕ, ◌+◌, ◌<◌, ◌≤◌, Bool, true, false, cond, eqb, ltb, List, [], ◌∷◌, drop, sym, ap, ◌∙◌, arith}
+use Rattle.std.proofs.Common.{◌≡◌, ℕ, ◌+◌, ◌<◌, false, eqb, ltb, List, [], ◌∷◌, drop, arith}
 use Rattle.std.specs.List.{prefix_len}
 use Rattle.std.proofs.lemmas.Bool.{cond-true, cond_both, or_left}
 use Rattle.words.specs.declared.Fault.{Fault}
-use Rattle.words.specs.Words.{Token, Reading, word, end, fault, is_letter, is_name_byte, is_arrow, blanks, word_at, next_word}
+use Rattle.words.specs.Words.{Token, Reading, word, fault, is_letter, is_name_byte, is_arrow, blanks, word_at, next_word}
 
 -- a word that r is ends past at
 abbrev Past : ℕ → Reading → Type 0

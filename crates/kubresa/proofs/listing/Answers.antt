@@ -1,4 +1,4 @@
-use Rattle.std.proofs.Common.{◌≡◌, sym, ap, ◌∙◌, add-one}
+use Rattle.std.proofs.Common.{sym, ap, ◌∙◌, add-one}
 use Rattle.tables.specs.Names.{statement_name}
 use Rattle.text.specs.Counted.{counts_of}
 use Rattle.text.specs.View.{bytes_of}

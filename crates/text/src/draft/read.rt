@@ -93,7 +93,7 @@ impl Draft {
         rules: &[RuleRow],
         entries: &[u16],
     ) -> Option<Cause>
-        ensures { result ≡ refusal_of (counts_of self.now) text.now (record { names = names.entry.now; rules = rules.now; entries = entries.now }) }
+        ensures { result ≡ refusal_of (counts_of self.now) text.now (record { names = names.now; rules = rules.now; entries = entries.now }) }
     {
         if text.len() > TEXT_MAX {
             return Some(Cause::LongText);
@@ -154,7 +154,7 @@ impl Draft {
         entries: &mut [u16],
     ) -> Result<(), Fault>
         requires { (length text.now ≤ 65536) × ((self.old.texts < 2) × ((self.old.names ≤ length names.old) × ((self.old.rules ≤ length rules.old) × (self.old.entries ≤ length entries.old)))) }
-        ensures* { λ r. ⌜ (record { result = r; counts = counts_of self.new; tables = record { names = names.exit.now; rules = rules.new; entries = entries.new } }) ≡ taken (counts_of self.old) text.now earlier.now (record { names = names.entry.now; rules = rules.old; entries = entries.old }) ⌝ }
+        ensures { (record { result = result; counts = counts_of self.new; tables = record { names = names.new; rules = rules.new; entries = entries.new } }) ≡ taken (counts_of self.old) text.now earlier.now (record { names = names.old; rules = rules.old; entries = entries.old }) }
     {
         let reading = reading(self.texts, text, earlier);
         let mut progress = Progress {
@@ -183,8 +183,8 @@ impl Draft {
         rules: &mut [RuleRow],
         entries: &mut [u16],
     ) -> Result<(), Fault>
-        ensures* is { λ r. ⌜ (record { result = r; counts = counts_of self.new; tables = record { names = names.exit.now; rules = rules.new; entries = entries.new } }) ≡ read_of (counts_of self.old) text.now earlier.now (record { names = names.entry.now; rules = rules.old; entries = entries.old }) ⌝ }
-        ensures* law { λ r. ⌜ Reads (counts_of self.old) text.now earlier.now (record { names = names.entry.now; rules = rules.old; entries = entries.old }) (record { result = r; counts = counts_of self.new; tables = record { names = names.exit.now; rules = rules.new; entries = entries.new } }) ⌝ }
+        ensures is { (record { result = result; counts = counts_of self.new; tables = record { names = names.new; rules = rules.new; entries = entries.new } }) ≡ read_of (counts_of self.old) text.now earlier.now (record { names = names.old; rules = rules.old; entries = entries.old }) }
+        ensures law { Reads (counts_of self.old) text.now earlier.now (record { names = names.old; rules = rules.old; entries = entries.old }) (record { result = result; counts = counts_of self.new; tables = record { names = names.new; rules = rules.new; entries = entries.new } }) }
     {
         match self.refusal(text, names, rules, entries) {
             Some(cause) => Err(Fault {

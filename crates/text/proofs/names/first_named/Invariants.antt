@@ -1,4 +1,4 @@
-use Rattle.std.proofs.Common.{◌≡◌, ◌≤◌, drop}
+use Rattle.std.proofs.Common.{◌≡◌, drop}
 use Rattle.tables.specs.Names.{found}
 use Rattle.text.proofs.names.first_named.Given as goal
 

@@ -1,10 +1,10 @@
-use Rattle.std.proofs.Common.{◌≡◌, ◌<◌, ◌≤◌, length, Ok, sym, refl, ap, ◌∙◌, arith}
+use Rattle.std.proofs.Common.{◌<◌, length, Ok, sym, ap, ◌∙◌, arith}
 use Rattle.std.proofs.lemmas.Result.{err_from_is_err_and}
 use Rattle.words.specs.Words.{token_of, place_of, reading, next_word}
 use Rattle.words.proofs.Laws.{advances}
 use Rattle.words.proofs.Small.{inside_text}
 use Rattle.tables.specs.Feed.{Tables}
-use Rattle.text.specs.View.{texts_of, stage_of, fed}
+use Rattle.text.specs.View.{texts_of, stage_of}
 use Rattle.text.proofs.Scanning.{one_more, at_end, at_wrong}
 use Rattle.text.proofs.scan.scan.Goals as goal
 
@@ -16,7 +16,7 @@ returns-in_err-word c =
     let t : Tables = record { names = c.loop-word.names; rules = c.loop-word.rules; entries = c.loop-word.entries } in
     let p = err_from_is_err_and c.from_residual.result c.from_residual.ensures.1 in
     let e = c.in_err-word.ensures.reads ∙ ap (λ u. next_word u r.position) c.loop-word.invariant.0 in
-    let w = at_wrong x (length text) text r.position (stage_of c.loop-word.progress) t c.in_err-word.field_0.0 c.next.new.self.position e in
+    let w = at_wrong x (length text) text r.position (stage_of c.loop-word.progress) t c.in_err-word.field-0.0 c.next.new.self.position e in
     rw (p.1, p.2) (sym (c.loop-word.invariant.2 ∙ w))
 
 pub step-requires : goal.step-requires

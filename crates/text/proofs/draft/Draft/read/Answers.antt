@@ -1,6 +1,6 @@
-use Rattle.std.proofs.Common.{◌≡◌, sym, ap, ◌∙◌, subst}
+use Rattle.std.proofs.Common.{sym, ap, ◌∙◌, subst}
 use Rattle.tables.specs.Feed.{Tables}
-use Rattle.tables.specs.Draft.{Outcome, read_if, read_of}
+use Rattle.tables.specs.Draft.{read_if}
 use Rattle.text.specs.Counted.{counts_of}
 use Rattle.tables.specs.Law.{Reads}
 use Rattle.tables.proofs.Lawful.{lawful}

@@ -1,4 +1,4 @@
-use Rattle.std.proofs.Common.{◌≡◌, length, sym, refl, ap, ◌∙◌}
+use Rattle.std.proofs.Common.{◌≡◌, length, ap, ◌∙◌}
 use Rattle.words.specs.Running.{running}
 use Rattle.tables.specs.Feed.{Tables, Texts}
 use Rattle.tables.specs.Reading.{run}
