@@ -1,23 +1,22 @@
 -- A turn over the tables is the turn of a rule of the rulebook.
-use Rattle.std.proofs.Common.{◌≡◌, ℕ, ◌+◌, ◌-◌, ◌*◌, ◌/◌, ◌<◌, ◌≤◌, Bool, true, false, ◌&&◌, eqb, ◌≢◌, ◌⊎◌, List, [], map, length, get_or, take, drop, sym, refl, ap, ◌∙◌, subst, inl, inr, arith}
-use mathlib.Core.Option.{Option, some, none}
-use Rattle.std.proofs.lemmas.Bool.{cases_Bool, cases_lt, both_ways, and_parts, and_from, eqb-true, eq-eqb, cases_eq}
-use Rattle.std.proofs.lemmas.List.{get_or-map, length-map, length-take, length-drop, nil_from_length}
-use Rattle.closing.specs.Sets.{holds, contrary, In, Within, Under, in_to, part_codes, move, holds_once}
+use Rattle.std.proofs.Common.{◌≡◌, ℕ, ◌+◌, ◌*◌, ◌/◌, ◌<◌, ◌≤◌, Bool, true, false, eqb, List, [], length, get_or, take, drop, sym, refl, ap, ◌∙◌, subst, inl, inr, arith}
+use Rattle.std.proofs.Math.Option.{none}
+use Rattle.std.proofs.lemmas.Bool.{cases_lt, both_ways, and_parts, and_from, eqb-true, eq-eqb, cases_eq}
+use Rattle.std.proofs.lemmas.List.{length-take, length-drop}
+use Rattle.closing.specs.Sets.{holds, contrary, move, holds_once}
 use Rattle.closing.specs.Forces.{Forces, KeptAt, Barred}
-use Rattle.closing.specs.Turns.{Turn, Further}
+use Rattle.closing.specs.Turns.{Turn}
 use Rattle.closing.specs.declared.Step.{Step}
 use Rattle.closing.specs.declared.Step.TheVariants.{Same, Changed, Clash}
-use Rattle.stable.specs.Books.{stmt, negated, Rule, Book, rows, row, Sound, no_rule, Unfounded}
-use Rattle.stable.specs.Decide.{book_forces, empties}
+use Rattle.stable.specs.Books.{stmt, negated, Book, rows, row}
+use Rattle.stable.specs.Decide.{book_forces}
 use Rattle.stable.proofs.Forced.{row_to, row_from, stated_to, stated_from, unf_from_set, unf_to_all, force_row, force_statement, force_last, bar_row, bar_statement, bar_last, both_values, empties_to, empties_from}
 use Rattle.rulebook.specs.declared.row.RuleRow.{RuleRow}
 use Rattle.rulebook.specs.Rows.{blank}
 use Rattle.bases.specs.Bodiless.{bodiless}
-use Rattle.turns.specs.Meaning.{head_of, rule_of, book_of}
+use Rattle.turns.specs.Meaning.{head_of, book_of}
 use Rattle.turns.specs.Table.{LawTurn, RowKept, StatementKept, UnfoundedFail, TableOk, rule_at}
 use Rattle.turns.proofs.Sealed.{many, rule_of_lem, table_sound}
-use Rattle.turns.proofs.Marks.{head_of_lem}
 use Rattle.turns.proofs.Steps.{head_some, head_none}
 
 -- a turn under a law is the turn of a rule that keeps the same sets

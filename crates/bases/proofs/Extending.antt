@@ -1,5 +1,5 @@
 -- An extension by the rules' outcome is one by the closure under the five rules.
-use Rattle.std.proofs.Common.{◌≡◌, ℕ, List, Ok, Err, Result, subst}
+use Rattle.std.proofs.Common.{ℕ, List, Ok, Err, Result, subst}
 use Rattle.source.specs.declared.Refusal.{Refusal}
 use Rattle.base.specs.declared.Outcome.{Outcome}
 use Rattle.base.specs.declared.Outcome.TheVariants.{Fits, Clash}

@@ -1,10 +1,9 @@
 -- The rows and entries of a sealed rulebook that are counted, as the checker reads `&a[0..n]`.
-use Rattle.std.proofs.Common.{◌≡◌, ℕ, ◌-◌, ◌≤◌, List, length, take, sym, ap, subst, arith}
+use Rattle.std.proofs.Common.{◌≡◌, ℕ, ◌-◌, ◌≤◌, List, length, take, sym, subst, arith}
 use Rattle.std.proofs.lemmas.List.{length-take}
 use Rattle.closing.specs.Turns.{Turn}
 use Rattle.closing.specs.declared.Step.{Step}
 use Rattle.stable.specs.Decide.{book_forces}
-use Rattle.rulebook.specs.declared.row.RuleRow.{RuleRow}
 use Rattle.rulebook.specs.declared.sealed.Rulebook.{Rulebook}
 use Rattle.turns.specs.Chain.{Chained}
 use Rattle.turns.specs.Meaning.{book_of, book_in}

@@ -1,5 +1,5 @@
 -- The cases by computation.
-use Rattle.std.proofs.Common.{◌≡◌, ℕ, Bool, true, not, List, [], length, refl, inl, inr}
+use Rattle.std.proofs.Common.{◌≡◌, ℕ, true, not, List, [], length, refl, inl, inr}
 use Rattle.std.proofs.lemmas.Bool.{not-true, not-false, not_from_false, cases_Bool, both_ways}
 use Rattle.base.specs.Settled.{picked, sure_from}
 use Rattle.base.proofs.Settling.{settle}

@@ -1,17 +1,17 @@
 -- One clause's turn, and the loops over the tables.
-use Rattle.std.proofs.Common.{◌≡◌, ℕ, zero, suc, ◌+◌, ◌-◌, ◌*◌, ◌/◌, ◌%◌, ◌<◌, ◌≤◌, Bool, true, false, not, ◌&&◌, ◌||◌, eqb, ltb, leb, ◌≢◌, ◌⊎◌, List, [], ◌∷◌, length, get_or, take, drop, sym, refl, ap, ◌∙◌, subst, inl, inr, add-one, arith}
-use Rattle.std.proofs.lemmas.Bool.{cases_Bool, cases_eq, both_ways, and_from, true≢false}
+use Rattle.std.proofs.Common.{◌≡◌, ℕ, ◌+◌, ◌*◌, ◌<◌, Bool, true, false, List, length, get_or, sym, refl, ◌∙◌, subst, inl, inr, add-one, arith}
+use Rattle.std.proofs.lemmas.Bool.{cases_Bool, cases_eq, both_ways, and_from}
 use Rattle.source.specs.Plans.{Partial}
 use Rattle.base.proofs.Partials.{long}
-use Rattle.closing.specs.Sets.{contrary, holds, every, below, In, Under, every_to, every_from, below_to, Codes, in_to, in_from}
-use Rattle.closing.specs.Forces.{Forces, KeptAt, Barred}
-use Rattle.closing.specs.Turns.{Turn, Further, Made}
+use Rattle.closing.specs.Sets.{contrary, holds, below, In, every_to, every_from, below_to, in_to, in_from}
+use Rattle.closing.specs.Forces.{KeptAt}
+use Rattle.closing.specs.Turns.{Turn, Made}
 use Rattle.closing.specs.declared.Step.{Step}
 use Rattle.closing.specs.declared.Step.TheVariants.{Same, Changed, Clash}
 use Rattle.closing.proofs.Deciding.{made_further}
 use Rattle.clauses.specs.declared.run.Run.{Run}
 use Rattle.clauses.specs.declared.Remaining.TheVariants.{Nothing, One, Several}
-use Rattle.clauses.specs.Clauses.{clause_at, forces_one, contradicted, one_clause, clause_forces, run0}
+use Rattle.clauses.specs.Clauses.{clause_at, contradicted, one_clause, clause_forces}
 use Rattle.clauses.specs.Sounds.{forces_to, forces_from}
 use Rattle.clauses.specs.Listing.{Lacks}
 

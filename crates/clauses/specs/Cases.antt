@@ -1,5 +1,5 @@
 -- Small clause lists and the plans that they have. Statement 0 is a, 1 is b; entry 2s says that s holds, 2s + 1 that it fails.
-use Rattle.std.specs.Prelude.{◌≡◌, ℕ, Bool, not, List, [], ◌∷◌, length}
+use Rattle.std.specs.Prelude.{◌≡◌, ℕ, Bool, not, List, length}
 use Rattle.base.specs.Laws.{Out}
 use Rattle.base.specs.Settled.{Settled}
 use Rattle.closing.specs.Sets.{holds, every, below}

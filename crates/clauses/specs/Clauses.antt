@@ -1,5 +1,5 @@
 -- Clauses: sets of entries, of which one at least must hold.
-use Rattle.std.specs.Prelude.{◌≡◌, ℕ, zero, suc, ◌+◌, ◌*◌, ◌<◌, ◌≤◌, Bool, true, false, not, ◌&&◌, ◌||◌, leb, List, [], ◌∷◌, length, take, drop, ◌==◌, nat_le, nat_lt, slice_index, slice_index_or}
+use Rattle.std.specs.Prelude.{◌≡◌, ℕ, ◌+◌, ◌*◌, ◌<◌, Bool, true, not, ◌&&◌, ◌||◌, List, length, take, drop, ◌==◌, nat_le, nat_lt, slice_index, slice_index_or}
 use Rattle.source.specs.Plans.{Whole}
 use Rattle.closing.specs.Sets.{contrary, holds, every, below, In}
 use Rattle.closing.specs.Forces.{Forces}
@@ -40,7 +40,7 @@ pub record ClausePlan (w : ℕ) (rs : List Run) (es p : List ℕ) : Type 0 where
 
 -- each run lies among the m entries
 abbrev pub runs_fit : List Run → ℕ → Bool
-runs_fit rs m = below (length rs) (λ k. leb ((slice_index_or rs k run0).first + (slice_index_or rs k run0).count) m)
+runs_fit rs m = below (length rs) (λ k. nat_le ((slice_index_or rs k run0).first + (slice_index_or rs k run0).count) m)
 
 -- each entry names a statement below the width
 abbrev pub codes_fit : List ℕ → ℕ → Bool

@@ -1,5 +1,5 @@
 -- What the code's parts promise.
-use Rattle.std.specs.Prelude.{◌≡◌, ℕ, ◌+◌, ◌*◌, ◌<◌, ◌≤◌, Bool, true, false, ◌≢◌, List, length, Ok, Err, Result, slice_index}
+use Rattle.std.specs.Prelude.{◌≡◌, ℕ, ◌<◌, true, false, ◌≢◌, List, length, Ok, Err, Result, slice_index}
 use Rattle.closing.specs.Sets.{contrary, holds}
 use Rattle.clauses.specs.declared.run.Run.{Run}
 use Rattle.clauses.specs.declared.ClauseRefusal.{ClauseRefusal}

@@ -1,13 +1,13 @@
 -- Clauses are rules that make a base.
-use Rattle.std.specs.Prelude.{◌≡◌, ℕ, zero, suc, ◌+◌, ◌-◌, ◌*◌, ◌/◌, ◌%◌, ◌<◌, ◌≤◌, Bool, true, false, not, ◌&&◌, ◌||◌, ◌≢◌, ◌⊎◌, List, [], ◌∷◌, length, ◌==◌, nat_le, nat_lt, slice_index, slice_index_or, refl}
-use Rattle.std.proofs.Common.{sym, ap, ◌∙◌, subst, inl, inr, arith}
-use Rattle.std.proofs.lemmas.Bool.{eqb-true, eqb-false, cases_Bool, cases_eq, and_parts, and_from, not-true, not_from_false, not-false, both_ways, ne_eqb, eq-eqb, or_cases, or_left, or_right, ltb-true, leb-true}
+use Rattle.std.specs.Prelude.{◌≡◌, ℕ, ◌+◌, ◌*◌, ◌/◌, ◌%◌, ◌<◌, ◌≤◌, Bool, true, false, not, ◌≢◌, List, length, ◌==◌, nat_le, nat_lt, slice_index, slice_index_or, refl}
+use Rattle.std.proofs.Common.{sym, ap, subst, inl, inr, arith}
+use Rattle.std.proofs.lemmas.Bool.{eqb-true, eqb-false, cases_Bool, cases_eq, and_parts, and_from, not-true, not_from_false, not-false, both_ways, eq-eqb, or_cases, or_left, or_right, ltb-true, leb-true}
 use Rattle.source.specs.Plans.{Whole}
 use Rattle.base.proofs.Partials.{small, whole_partial, whole_decided}
-use Rattle.closing.specs.Sets.{contrary, holds, every, below, In, Sub, every_to, every_from, every_or, below_to, holds_once, Codes, in_to, in_from, part_codes}
-use Rattle.closing.specs.Forces.{Forces, Kept, Free, Barred, Sound, Based}
+use Rattle.closing.specs.Sets.{contrary, holds, every, In, every_to, every_from, every_or, below_to, holds_once, Codes, in_to, part_codes}
+use Rattle.closing.specs.Forces.{Sound, Based}
 use Rattle.clauses.specs.declared.run.Run.{Run}
-use Rattle.clauses.specs.Clauses.{run0, clause_at, has, forces_one, contradicted, one_clause, clause_forces, ClausePlan, runs_fit, codes_fit, clauses_ok}
+use Rattle.clauses.specs.Clauses.{run0, clause_at, has, forces_one, contradicted, clause_forces, ClausePlan, runs_fit, codes_fit, clauses_ok}
 
 pub has_to : (e : ℕ) (c : List ℕ) → has e c ≡ true → In e c
 has_to e c h = elim (every_or (λ f. not (f == e)) c) [

@@ -1,10 +1,9 @@
 -- The answer of an extension, by its outcome and by the least set.
-use Rattle.std.proofs.Common.{◌≡◌, ℕ, Bool, true, false, List, Ok, Err, sym, refl, ap, ◌∙◌, subst}
-use mathlib.Core.Path.{fun_ext}
+use Rattle.std.proofs.Common.{◌≡◌, ℕ, Bool, true, false, List, Ok, sym, refl, ap, ◌∙◌, subst}
+use Rattle.std.proofs.Math.Path.{fun_ext}
 use Rattle.source.specs.Plans.{Partial}
 use Rattle.base.specs.declared.Outcome.{Outcome}
 use Rattle.base.specs.declared.Outcome.TheVariants.{Fits, Clash}
-use Rattle.base.specs.Laws.{Out, clash, fits}
 use Rattle.base.specs.Extending.{Extends}
 use Rattle.closing.specs.Sets.{tabulate, byte_of}
 use Rattle.closing.specs.Forces.{Forces, closure, barred, outcome, Free, Barred, Least, Sound}

@@ -1,11 +1,11 @@
 -- An entry that a rule forces, made to hold.
-use Rattle.std.proofs.Common.{◌≡◌, ℕ, zero, suc, ◌+◌, ◌-◌, ◌*◌, ◌/◌, ◌%◌, ◌<◌, ◌≤◌, Bool, true, false, cond, eqb, ◌≢◌, ◌⊎◌, List, [], ◌∷◌, length, get_or, set, sym, refl, ap, ◌∙◌, subst, inl, inr, arith}
+use Rattle.std.proofs.Common.{◌≡◌, ℕ, zero, suc, ◌+◌, ◌*◌, ◌/◌, ◌%◌, ◌<◌, Bool, true, cond, eqb, ◌≢◌, List, [], ◌∷◌, length, get_or, set, sym, ap, ◌∙◌, subst, inl, inr, arith}
 use Rattle.std.proofs.lemmas.Bool.{eqb-true, cases_eq, ne_eqb, eq-eqb, cond-true, cond-false}
 use Rattle.std.proofs.lemmas.List.{get_or-set_same, get_or-set_other, length-set}
 use Rattle.source.specs.Plans.{UpTo}
-use Rattle.closing.specs.Sets.{holds, contrary, Under}
+use Rattle.closing.specs.Sets.{holds, Under}
 use Rattle.closing.specs.Turns.{undecided, Further, Made}
-use Rattle.closing.specs.declared.Step.TheVariants.{Same, Changed, Clash}
+use Rattle.closing.specs.declared.Step.TheVariants.{Changed}
 
 pub undecided_set : (p : List ℕ) (s v : ℕ) → s < length p → get_or p s 0 ≡ 0 → v ≢ 0 → undecided (set p s v) < undecided p
 undecided_set [] s v l z nz = absurd (omega arith)

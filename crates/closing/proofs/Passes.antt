@@ -1,11 +1,10 @@
 -- A pass of turns, and passes until nothing changes.
-use Rattle.std.proofs.Common.{◌≡◌, ℕ, ◌+◌, ◌<◌, ◌≤◌, Bool, true, false, List, length, sym, refl, ap, ◌∙◌, subst, arith, below_more}
+use Rattle.std.proofs.Common.{◌≡◌, ℕ, ◌+◌, ◌<◌, ◌≤◌, Bool, true, false, List, length, sym, ap, ◌∙◌, subst, arith, below_more}
 use Rattle.source.specs.Plans.{Partial}
 use Rattle.closing.specs.Sets.{holds, Under}
-use Rattle.closing.specs.Forces.{Forces, KeptAt, Kept, Free, Barred}
+use Rattle.closing.specs.Forces.{Forces, KeptAt, Kept}
 use Rattle.closing.specs.Turns.{undecided, Further, Turn, Pass, Through}
-use Rattle.closing.specs.declared.Step.{Step}
-use Rattle.closing.specs.declared.Step.TheVariants.{Same, Changed, Clash}
+use Rattle.closing.specs.declared.Step.TheVariants.{Same}
 
 module _ (R : Forces) (p : List ℕ) where
   pub through_under : (i : ℕ) (q : List ℕ) (ch : Bool) → Through R p i q ch → (C : ℕ → Bool) → Kept R C → Under C p → Under C q

@@ -1,15 +1,15 @@
 -- The closure is the least kept set, and rules make a base.
-use Rattle.std.specs.Prelude.{◌≡◌, ℕ, zero, suc, ◌+◌, ◌-◌, ◌*◌, ◌/◌, ◌%◌, ◌<◌, ◌≤◌, Bool, true, false, cond, not, ◌&&◌, ◌||◌, ◌≢◌, ◌⊎◌, List, [], ◌∷◌, length, ◌==◌, nat_eq, nat_lt, slice_index, slice_index_or, refl}
+use Rattle.std.specs.Prelude.{◌≡◌, ℕ, zero, suc, ◌+◌, ◌-◌, ◌*◌, ◌/◌, ◌%◌, ◌<◌, ◌≤◌, Bool, true, false, cond, not, ◌&&◌, ◌||◌, ◌≢◌, List, length, ◌==◌, nat_eq, nat_lt, slice_index, slice_index_or, refl}
 use Rattle.std.proofs.Common.{sym, ap, ◌∙◌, subst, arith}
 use Rattle.std.proofs.Math.Path.{fun_ext}
 use Rattle.std.proofs.Math.Logic.{inl, inr}
-use Rattle.std.proofs.lemmas.Bool.{eqb-true, eqb-false, cases_Bool, cases_eq, and_parts, and_from, and_cases, not-true, not_from_false, not-false, not_from_true, both_ways, cases_lt, ne_eqb, eq-eqb, lt-ltb, le-ltb, cond-true, cond-false, true≢false}
+use Rattle.std.proofs.lemmas.Bool.{eqb-true, cases_Bool, cases_eq, and_parts, and_from, and_cases, not-true, not_from_false, not-false, not_from_true, both_ways, cases_lt, ne_eqb, eq-eqb, lt-ltb, le-ltb, cond-true, cond-false, true≢false}
 use Rattle.std.proofs.lemmas.List.{get_or_past, ext_get_or}
 use Rattle.source.specs.Plans.{Partial, Whole, Agrees}
 use Rattle.base.proofs.Partials.{long, small, partial_from, whole_long}
-use Rattle.base.specs.Laws.{Out, clash, fits, Lawful}
-use Rattle.closing.specs.Sets.{contrary, holds, imp, below, all_sets, subset, Within, Sub, Under, tabulate, byte_of, imp_to, imp_from, below_to, below_from, sets_to, sets_from, move, contrary_back, contrary_less, holds_once}
-use Rattle.closing.specs.Forces.{Forces, kept, closure, barred, outcome, KeptAt, Kept, Free, Barred, Least, Sound, Based}
+use Rattle.base.specs.Laws.{clash, fits, Lawful}
+use Rattle.closing.specs.Sets.{contrary, holds, below, subset, Within, Sub, Under, tabulate, byte_of, imp_to, imp_from, below_to, below_from, sets_to, sets_from, move, contrary_back, holds_once}
+use Rattle.closing.specs.Forces.{Forces, kept, closure, barred, outcome, Kept, Free, Barred, Least, Sound, Based}
 
 abbrev Covers : Forces → List ℕ → (ℕ → Bool) → Type 0
 Covers R p D = (e : ℕ) → e < 2 * R.width → holds p e ≡ true → D e ≡ true

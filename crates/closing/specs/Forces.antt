@@ -1,5 +1,5 @@
 -- Rules that force decisions, their closure, and the base that they make.
-use Rattle.std.specs.Prelude.{◌≡◌, ℕ, zero, suc, ◌+◌, ◌*◌, ◌<◌, ◌≤◌, Bool, true, false, cond, not, ◌&&◌, ◌||◌, List, [], ◌∷◌, length, get_or}
+use Rattle.std.specs.Prelude.{◌≡◌, ℕ, ◌*◌, ◌<◌, ◌≤◌, Bool, true, false, cond, not, ◌&&◌, List}
 use Rattle.source.specs.Plans.{Whole}
 use Rattle.base.specs.Laws.{Out, clash, fits}
 use Rattle.closing.specs.Sets.{contrary, holds, imp, below, all_sets, subset, Within, Sub, tabulate, byte_of}

@@ -1,8 +1,8 @@
 -- What one rule's turn promises, and a pass of all rules.
-use Rattle.std.specs.Prelude.{◌≡◌, ℕ, ◌+◌, ◌*◌, ◌/◌, ◌%◌, ◌<◌, ◌≤◌, Bool, true, false, cond, List, [], ◌∷◌, length, set, Ok, Err, Result, ◌==◌, slice_index, slice_set}
+use Rattle.std.specs.Prelude.{◌≡◌, ℕ, ◌+◌, ◌/◌, ◌%◌, ◌<◌, Bool, true, false, cond, List, [], ◌∷◌, length, Ok, Err, Result, ◌==◌, slice_index, slice_set}
 use Rattle.source.specs.Plans.{UpTo}
 use Rattle.source.specs.declared.Refusal.{Refusal}
-use Rattle.base.specs.Laws.{Out, clash, fits}
+use Rattle.base.specs.Laws.{clash, fits}
 use Rattle.base.specs.declared.Outcome.{Outcome}
 use Rattle.base.specs.declared.Outcome.TheVariants.{Fits, Clash as Clashes}
 use Rattle.closing.specs.Sets.{holds, contrary, Under, tabulate, byte_of}

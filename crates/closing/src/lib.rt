@@ -63,8 +63,8 @@ pub fn entry_holds(p: &[u8], e: u16) -> bool
 
 // Makes an entry hold, where the partial does not contradict it.
 pub fn decide(p: &mut [u8], e: u16) -> Step
-    requires e_bound { e < 2 * length p.old }
-    requires up_to { UpTo 2 p.old }
+    requires entry { e < 2 * length p.old }
+    requires bytes { UpTo 2 p.old }
     ensures { Made p.old e p.new result }
 {
     let s = (e / 2) as usize;
@@ -81,8 +81,8 @@ pub fn decide(p: &mut [u8], e: u16) -> Step
 
 // Every rule once, but no dear one after a change.
 fn pass<R: Rules>(rules: &R, p: &mut [u8]) -> Step
-    requires { Partial (forces rules.now).width p.old }
-    ensures { Pass (forces rules.now) p.old p.new result }
+    requires { Partial (R.forces rules.now).width p.old }
+    ensures { Pass (R.forces rules.now) p.old p.new result }
 {
     let n = rules.count();
     let swift = rules.swift();
@@ -104,8 +104,8 @@ fn pass<R: Rules>(rules: &R, p: &mut [u8]) -> Step
 
 // Passes until nothing changes; false at a clash.
 fn close<R: Rules>(rules: &R, p: &mut [u8]) -> bool
-    requires { Partial (forces rules.now).width p.old }
-    ensures { Closes (forces rules.now) p.old p.new result }
+    requires { Partial (R.forces rules.now).width p.old }
+    ensures { Closes (R.forces rules.now) p.old p.new result }
 {
     'passes: loop {
         match pass(rules, p) {
@@ -118,9 +118,9 @@ fn close<R: Rules>(rules: &R, p: &mut [u8]) -> bool
 
 // Extends by way of lent memory of the same length; a clash leaves the partial.
 fn extend_with<R: Rules>(rules: &R, p: &mut [u8], work: &mut [u8]) -> Outcome
-    requires partial { Partial (forces rules.now).width p.old }
+    requires partial { Partial (R.forces rules.now).width p.old }
     requires work { length work.old ≡ length p.old }
-    ensures { Extended (forces rules.now) p.old p.new result }
+    ensures { Extended (R.forces rules.now) p.old p.new result }
 {
     work.copy_from_slice(p);
     if close(rules, work) {
@@ -165,7 +165,7 @@ impl<R: Rules> Base for Closing<R> {
 
 // The closure is the least set of decisions that contains the partial and has all that the rules force.
 pub fn closure_stands<R: Rules>(rules: &R) -> u8
-    ensures { (p : List ℕ) → Least (forces rules.now) p (closure (forces rules.now) p) }
+    ensures { (p : List ℕ) → Least (R.forces rules.now) p (closure (R.forces rules.now) p) }
 {
     0
 }

@@ -1,8 +1,8 @@
 -- The parts of the five rules as tests, and what they say.
-use Rattle.std.proofs.Common.{◌≡◌, ℕ, zero, suc, ◌+◌, ◌-◌, ◌*◌, ◌/◌, ◌%◌, ◌<◌, ◌≤◌, Bool, true, false, cond, not, ◌&&◌, ◌||◌, eqb, ◌≢◌, ◌⊎◌, List, [], ◌∷◌, length, get_or, sym, refl, ap, ◌∙◌, subst, inl, inr, arith}
-use mathlib.Core.Option.{Option, some, none}
-use Rattle.std.proofs.lemmas.Bool.{eqb-true, cases_Bool, cases_eq, both_ways, and_parts, and_from, not-true, not_from_false, not-false, eq-eqb, or_cases, or_left, or_right, or_parts}
-use Rattle.closing.specs.Sets.{contrary, In, Within, imp, every, below, all_sets, imp_to, imp_from, every_to, every_from, every_or, below_to, below_from}
+use Rattle.std.proofs.Common.{◌≡◌, ℕ, ◌+◌, ◌*◌, Bool, true, false, not, ◌||◌, eqb, ◌⊎◌, List, sym, refl, ap, subst, inl, inr, arith}
+use Rattle.std.proofs.Math.Option.{Option, some, none}
+use Rattle.std.proofs.lemmas.Bool.{eqb-true, cases_Bool, both_ways, not-true, not_from_false, not-false, eq-eqb, or_cases, or_left, or_right, or_parts}
+use Rattle.closing.specs.Sets.{contrary, In, every, imp_to, imp_from, every_to, every_from, every_or, below_to, below_from}
 use Rattle.stable.specs.Books.{stmt, negated, Rule, Book, rows, row, Cancelled, HeadFails, Unfounded}
 use Rattle.stable.specs.Decide.{on_head, cancelled, unfounded, heads}
 

@@ -1,10 +1,9 @@
 -- The cases by computation.
-use Rattle.std.proofs.Common.{◌≡◌, ℕ, ◌*◌, Bool, true, List, [], refl, arith}
-use Rattle.source.specs.Plans.{Whole}
-use Rattle.base.specs.Settled.{Settled, Among, picked, sure_from}
+use Rattle.std.proofs.Common.{◌≡◌, ℕ, ◌*◌, List, [], refl, arith}
+use Rattle.base.specs.Settled.{picked, sure_from}
 use Rattle.base.proofs.Settling.{settle}
 use Rattle.base.proofs.Partials.{whole_long}
-use Rattle.closing.specs.Sets.{holds, Within}
+use Rattle.closing.specs.Sets.{holds}
 use Rattle.closing.specs.Closures.{holds_within}
 use Rattle.stable.specs.Books.{Book, BookPlan}
 use Rattle.stable.specs.Decide.{is_plan_row}

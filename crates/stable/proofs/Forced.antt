@@ -1,16 +1,16 @@
 -- A rulebook as rules that force decisions: one for each row (forward, contraposition), one for each statement (all cancelled, backchain), and one for all unfounded sets (unfounded).
-use Rattle.std.proofs.Common.{◌≡◌, ℕ, zero, suc, ◌+◌, ◌-◌, ◌*◌, ◌/◌, ◌%◌, ◌<◌, ◌≤◌, Bool, true, false, cond, not, ◌&&◌, ◌||◌, eqb, ltb, ◌≢◌, ◌⊎◌, List, [], ◌∷◌, length, get_or, sym, refl, ap, ◌∙◌, subst, inl, inr, arith}
-use mathlib.Core.Option.{Option, some, none}
-use Rattle.std.proofs.lemmas.Bool.{eqb-true, eqb-false, cases_Bool, cases_eq, cases_lt, both_ways, and_parts, and_from, and_left, not-true, not_from_false, not_from_true, not-false, eq-eqb, ne_eqb, or_cases, or_left, or_right, or_from, lt-ltb, le-ltb, ltb-true, ltb-false, cond-true, cond-false}
+use Rattle.std.proofs.Common.{◌≡◌, ℕ, zero, suc, ◌+◌, ◌-◌, ◌*◌, ◌/◌, ◌%◌, ◌<◌, ◌≤◌, Bool, true, false, not, ◌&&◌, eqb, ltb, ◌≢◌, ◌⊎◌, List, [], length, get_or, sym, refl, ap, ◌∙◌, subst, inl, inr, arith}
+use Rattle.std.proofs.Math.Option.{Option, some, none}
+use Rattle.std.proofs.lemmas.Bool.{eqb-true, eqb-false, cases_Bool, cases_eq, cases_lt, both_ways, and_parts, and_from, not-true, not_from_false, eq-eqb, ne_eqb, or_cases, or_left, or_right, lt-ltb, le-ltb, cond-true, cond-false}
 use Rattle.std.proofs.lemmas.List.{nil_from_length, get_or_past}
 use Rattle.source.specs.Plans.{Whole}
 use Rattle.base.proofs.Partials.{small, whole_long, whole_partial, whole_decided}
 use Rattle.closing.specs.Sets.{contrary, holds, In, Within, Sub, imp, every, below, all_sets, imp_to, imp_from, every_to, every_from, below_to, below_from, sets_to, sets_from, move, holds_once}
 use Rattle.closing.specs.Forces.{Forces, KeptAt, Free, Barred, Based}
 use Rattle.closing.specs.Forces as forcing
-use Rattle.stable.specs.Books.{stmt, negated, Rule, Book, rows, row, Sound, IsPlan, Cancelled, HeadFails, Unfounded, Kept, Total, holding, BookPlan}
+use Rattle.stable.specs.Books.{stmt, negated, Rule, Book, rows, row, Sound, Cancelled, HeadFails, Unfounded, Kept, Total, BookPlan}
 use Rattle.stable.specs.Decide.{on_head, cancelled, unfounded, heads, some_below, some_in, row_forces, all_cancelled, others_cancelled, only_row, statement_forces, unfounded_forces, empties, kind, book_forces}
-use Rattle.stable.proofs.Bridge.{head_to, head_from, heads_to, heads_from, fails_to, fails_from, some_to, some_from, cancelled_to, cancelled_from, unf_to, unf_from}
+use Rattle.stable.proofs.Bridge.{heads_to, heads_from, fails_to, fails_from, some_to, some_from, cancelled_to, cancelled_from, unf_to, unf_from}
 use Rattle.stable.proofs.Theory.{plans_are_kept, kept_are_plans}
 
 -- THE TESTS, OPENED

@@ -1,16 +1,14 @@
 -- The theorems on closures, and the base that a rulebook makes.
-use Rattle.std.proofs.Common.{◌≡◌, ℕ, ◌+◌, ◌*◌, ◌<◌, ◌≤◌, Bool, true, false, cond, ◌&&◌, ◌⊎◌, List, sym, refl, ap, ◌∙◌, subst, inl, inr, arith}
-use mathlib.Core.Path.{fun_ext}
-use Rattle.std.proofs.lemmas.Bool.{cases_Bool, cases_lt, both_ways, and_parts, and_from, cond-true, cond-false}
-use Rattle.source.specs.Plans.{Agrees}
-use Rattle.base.specs.Laws.{Lawful, Out, clash, fits}
+use Rattle.std.proofs.Common.{◌≡◌, ℕ, ◌+◌, ◌*◌, ◌<◌, Bool, true, false, cond, ◌⊎◌, List, sym, refl, ap, ◌∙◌, subst, inl, inr, arith}
+use Rattle.std.proofs.Math.Path.{fun_ext}
+use Rattle.std.proofs.lemmas.Bool.{cases_lt, both_ways, and_parts, and_from}
+use Rattle.base.specs.Laws.{clash, fits}
 use Rattle.base.proofs.Partials.{whole_long}
-use Rattle.closing.specs.Sets.{contrary, holds, In, Within, Sub, tabulate, byte_of, move, holds_once}
-use Rattle.closing.specs.Forces.{closure, barred, outcome, Free, Barred}
-use Rattle.closing.specs.Forces as forcing
+use Rattle.closing.specs.Sets.{contrary, holds, In, Within, tabulate, byte_of, move, holds_once}
+use Rattle.closing.specs.Forces.{closure, barred, Barred}
 use Rattle.closing.specs.Closures.{closing_lawful, closure_is_least, holds_within, agrees_under, barred_at, barred_from, kept_to, kept_from}
-use Rattle.stable.specs.Books.{Book, rows, row, Sound, Kept, BookPlan, ClosureOf, Contradictory, Bodiless, OutcomeOf}
-use Rattle.stable.specs.Decide.{book_forces, empties}
+use Rattle.stable.specs.Books.{Book, rows, row, Sound, BookPlan, ClosureOf, Contradictory, Bodiless, OutcomeOf}
+use Rattle.stable.specs.Decide.{book_forces}
 use Rattle.stable.specs.Laws.{ClosureIsLeast, PlansAgree, ClashMeansNoPlan, WholeIsPlan, OutcomeIsClosure, BookLawful, TestsTell}
 use Rattle.stable.proofs.Theory.{plans_are_kept, kept_are_plans}
 use Rattle.stable.proofs.Plans.{plan_to, plan_from}

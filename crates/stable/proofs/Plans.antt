@@ -1,8 +1,8 @@
 -- The test for plans says what the definition says.
 use Rattle.std.proofs.Common.{◌≡◌, ℕ, ◌<◌, Bool, true, false, not, ◌&&◌, refl, inl, inr, arith}
-use mathlib.Core.Option.{Option, some, none}
+use Rattle.std.proofs.Math.Option.{Option, some, none}
 use Rattle.std.proofs.lemmas.Bool.{and_parts, and_from, not-true, not_from_false, both_ways, cases_lt}
-use Rattle.closing.specs.Sets.{Within, imp, subset, imp_to, imp_from, every_to, every_from, below_to, below_from, sets_to, sets_from}
+use Rattle.closing.specs.Sets.{Within, subset, imp_to, imp_from, every_to, every_from, below_to, below_from, sets_to, sets_from}
 use Rattle.stable.specs.Books.{negated, Rule, Book, rows, row, InReduct, Inside, Closed, IsPlan}
 use Rattle.stable.specs.Decide.{on_head, in_reduct, inside, closed, is_plan}
 use Rattle.stable.proofs.Bridge.{head_to, head_from}

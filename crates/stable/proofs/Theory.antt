@@ -1,7 +1,7 @@
-use Rattle.std.proofs.Common.{◌≡◌, ℕ, ◌+◌, ◌-◌, ◌*◌, ◌/◌, ◌%◌, ◌<◌, ◌≤◌, Bool, true, false, cond, not, ◌&&◌, eqb, ◌≢◌, ◌⊎◌, List, [], ◌∷◌, length, get_or, sym, refl, ap, ◌∙◌, subst, inl, inr, arith}
-use mathlib.Core.Option.{Option, some, none}
-use Rattle.std.proofs.lemmas.Bool.{eqb-true, eqb-false, cases_Bool, cases_eq, true≢false, and_parts, and_from, not-true, not_from_false, not-false, both_ways, cases_lt, and_left, ne_eqb, eq-eqb, cond-true, cond-false}
-use Rattle.closing.specs.Sets.{contrary, In, Within, move, every_or, contrary_back}
+use Rattle.std.proofs.Common.{◌≡◌, ℕ, ◌+◌, ◌*◌, ◌%◌, ◌<◌, Bool, true, false, cond, not, ◌&&◌, eqb, ◌≢◌, ◌⊎◌, List, [], ◌∷◌, sym, refl, ap, ◌∙◌, subst, inl, inr, arith}
+use Rattle.std.proofs.Math.Option.{Option, some, none}
+use Rattle.std.proofs.lemmas.Bool.{eqb-true, eqb-false, cases_Bool, cases_eq, and_parts, and_from, not-true, not_from_false, not-false, both_ways, cases_lt, and_left, ne_eqb, eq-eqb, cond-true, cond-false}
+use Rattle.closing.specs.Sets.{contrary, In, Within, move, every_or}
 use Rattle.stable.specs.Books.{stmt, negated, Rule, Book, rows, row, Sound, InReduct, Inside, Closed, IsPlan, Cancelled, HeadFails, Unfounded, Kept, Total, holding, Bodiless}
 use Rattle.stable.specs.Laws.{PlansAreKept, KeptArePlans}
 

@@ -1,5 +1,5 @@
 -- Rulebooks and their plans; sets of decisions and the five rules that force entries.
-use Rattle.std.specs.Prelude.{◌≡◌, ℕ, ◌+◌, ◌-◌, ◌*◌, ◌/◌, ◌%◌, ◌<◌, ◌≤◌, Bool, true, false, ◌≢◌, ◌⊎◌, List, [], ◌∷◌, length, ◌==◌, slice_index_or}
+use Rattle.std.specs.Prelude.{◌≡◌, ℕ, ◌+◌, ◌*◌, ◌/◌, ◌%◌, ◌<◌, ◌≤◌, Bool, true, false, ◌≢◌, ◌⊎◌, List, [], length, ◌==◌, slice_index_or}
 use Rattle.std.proofs.Math.Option.{Option, some, none}
 use Rattle.source.specs.Plans.{Whole}
 use Rattle.base.specs.Laws.{Out, clash, fits}

@@ -2,9 +2,9 @@
 --   PlansAre     the plans of a rulebook that agree with the pins, and the certain statements
 --   ExtendsTo    the outcome of a partial
 use Rattle.std.specs.Prelude.{◌≡◌, ℕ, List, [], ◌∷◌}
-use Rattle.std.proofs.Math.Option.{Option, some, none}
-use Rattle.base.specs.Laws.{Out, clash, fits}
-use Rattle.base.specs.Settled.{Settled, Exactly}
+use Rattle.std.proofs.Math.Option.{some, none}
+use Rattle.base.specs.Laws.{Out}
+use Rattle.base.specs.Settled.{Settled}
 use Rattle.closing.specs.Forces.{outcome}
 use Rattle.stable.specs.Books.{Rule, Book, BookPlan}
 use Rattle.stable.specs.Decide.{book_forces}

@@ -1,5 +1,5 @@
 -- The definitions of rulebooks again, as tests that compute: the five rules as rules that force decisions, and plans by running through all sets.
-use Rattle.std.specs.Prelude.{ℕ, zero, suc, ◌+◌, ◌-◌, ◌*◌, Bool, true, false, cond, not, ◌&&◌, ◌||◌, List, [], ◌∷◌, length, ◌==◌, nat_eq, nat_lt}
+use Rattle.std.specs.Prelude.{ℕ, ◌+◌, ◌-◌, ◌*◌, Bool, true, false, cond, not, ◌&&◌, ◌||◌, List, length, ◌==◌, nat_eq, nat_lt}
 use Rattle.std.proofs.Math.Option.{Option, some, none}
 use Rattle.closing.specs.Sets.{contrary, holds, imp, every, below, all_sets, subset}
 use Rattle.closing.specs.Forces.{Forces}

@@ -8,8 +8,8 @@
 --   OutcomeIsClosure   the outcome, as it computes, is the closure or a clash
 --   BookLawful          a rulebook makes a base
 --   TestsTell           the tests that compute say what the definitions say
-use Rattle.std.specs.Prelude.{◌≡◌, ℕ, ◌+◌, ◌*◌, ◌<◌, ◌≤◌, Bool, true, false, ◌⊎◌, List}
-use Rattle.source.specs.Plans.{Partial, Agrees}
+use Rattle.std.specs.Prelude.{◌≡◌, ℕ, Bool, true, ◌⊎◌, List}
+use Rattle.source.specs.Plans.{Agrees}
 use Rattle.base.specs.Laws.{Lawful}
 use Rattle.closing.specs.Sets.{holds, Within, Sub}
 use Rattle.closing.specs.Forces.{closure, outcome}

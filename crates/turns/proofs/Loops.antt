@@ -1,5 +1,5 @@
 -- A loop of turns, each under a law of its own.
-use Rattle.std.proofs.Common.{◌≡◌, ℕ, ◌+◌, ◌*◌, ◌<◌, ◌≤◌, Bool, true, false, List, length, sym, refl, ap, ◌∙◌, subst, arith, below_more}
+use Rattle.std.proofs.Common.{◌≡◌, ℕ, ◌+◌, ◌*◌, ◌<◌, Bool, true, false, List, length, sym, ap, ◌∙◌, subst, arith, below_more}
 use Rattle.closing.specs.Sets.{holds, Under}
 use Rattle.closing.specs.Turns.{Further, undecided}
 use Rattle.turns.specs.Table.{LawTurn, AllOf, Through}

@@ -1,10 +1,10 @@
 -- Marking founded statements.
-use Rattle.std.proofs.Common.{◌≡◌, ℕ, zero, suc, ◌+◌, ◌-◌, ◌*◌, ◌/◌, ◌%◌, ◌<◌, ◌≤◌, Bool, true, false, cond, not, ◌&&◌, eqb, ltb, ◌≢◌, ◌⊎◌, List, [], ◌∷◌, map, length, get_or, take, drop, set, replicate, sym, refl, ap, ◌∙◌, subst, inl, inr, arith, below_more}
-use mathlib.Core.Option.{Option, some, none}
+use Rattle.std.proofs.Common.{◌≡◌, ℕ, zero, suc, ◌+◌, ◌-◌, ◌/◌, ◌%◌, ◌<◌, ◌≤◌, Bool, true, false, ◌&&◌, eqb, ltb, ◌≢◌, ◌⊎◌, List, length, get_or, take, drop, set, replicate, sym, refl, ap, ◌∙◌, subst, inl, inr, arith, below_more}
+use Rattle.std.proofs.Math.Option.{some}
 use Rattle.std.proofs.lemmas.Bool.{eqb-true, eqb-false, cases_Bool, cases_eq, both_ways, cases_lt, ne_eqb, eq-eqb, and_parts, and_from, and_left, lt-ltb, le-ltb}
 use Rattle.std.proofs.lemmas.List.{get_or-set_other, length-map, get_or-map}
 use Rattle.closing.specs.Sets.{contrary, In, holds, Codes, Under, in_to, in_from}
-use Rattle.stable.specs.Books.{stmt, negated, Rule, Book, row, Cancelled, Unfounded, no_rule}
+use Rattle.stable.specs.Books.{stmt, negated, Rule, Book, Cancelled, Unfounded, no_rule}
 use Rattle.closing.specs.Turns.{undecided}
 use Rattle.turns.specs.Table.{rule_from, rule_at, BodyFounded, Never, RowDone, MarkedTo, MarkPass, TableOk, LawTurn, AllOf, FailAt, UnfoundedFail}
 use Rattle.turns.specs.Meaning.{rule_of, book_of, head_of}

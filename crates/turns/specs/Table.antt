@@ -1,6 +1,6 @@
 -- What the tables of a rulebook mean, and what the turns of its rules promise.
-use Rattle.std.specs.Prelude.{◌≡◌, ℕ, ◌+◌, ◌*◌, ◌/◌, ◌%◌, ◌<◌, ◌≤◌, Bool, true, false, cond, ◌≢◌, ◌⊎◌, List, map, length, get_or, take, drop, slice_index, slice_index_or}
-use Rattle.std.proofs.Math.Option.{Option, some, none}
+use Rattle.std.specs.Prelude.{◌≡◌, ℕ, ◌+◌, ◌*◌, ◌/◌, ◌%◌, ◌<◌, ◌≤◌, Bool, true, false, ◌≢◌, ◌⊎◌, List, map, length, get_or, take, drop, slice_index, slice_index_or}
+use Rattle.std.proofs.Math.Option.{some}
 use Rattle.closing.specs.Sets.{holds, contrary, In, Within, Under, Codes}
 use Rattle.closing.specs.Turns.{undecided, Further}
 use Rattle.closing.specs.declared.Step.{Step}

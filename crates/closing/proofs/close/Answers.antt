@@ -1,4 +1,4 @@
-use Rattle.std.proofs.Common.{◌≡◌, sym, refl, ap, ◌∙◌, subst, arith}
+use Rattle.std.proofs.Common.{sym, ap, ◌∙◌}
 use Rattle.base.specs.Laws.{fits}
 use Rattle.closing.specs.Forces.{Kept}
 use Rattle.closing.proofs.Passes.{further_partial}

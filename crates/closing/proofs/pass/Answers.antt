@@ -1,4 +1,4 @@
-use Rattle.std.proofs.Common.{◌≡◌, ◌<◌, ◌≤◌, true, false, sym, ◌∙◌, subst, arith}
+use Rattle.std.proofs.Common.{sym, subst, arith}
 use Rattle.source.specs.Plans.{Partial}
 use Rattle.closing.specs.Turns.{Through}
 use Rattle.closing.proofs.Passes.{through_under, through_same, through_changed, through_end_same, further_partial}

@@ -1,6 +1,4 @@
-use Rattle.std.proofs.Common.{◌≡◌, true, false, length, get_or, arith}
-use Rattle.rulebook.specs.Rows.{blank}
-use Rattle.turns.specs.Chain.{Chained}
+use Rattle.std.proofs.Common.{arith}
 use Rattle.turns.proofs.Chains.{chain_none, chain_next}
 use Rattle.turns.proofs.chain_rows.Goals as goal
 

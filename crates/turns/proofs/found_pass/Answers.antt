@@ -1,4 +1,4 @@
-use Rattle.std.proofs.Common.{◌≡◌, length, sym, ◌∙◌, subst, arith}
+use Rattle.std.proofs.Common.{length, sym, ◌∙◌, subst, arith}
 use Rattle.closing.specs.Sets.{holds}
 use Rattle.turns.specs.Meaning.{book_of}
 use Rattle.turns.specs.Table.{Never, MarkedTo}

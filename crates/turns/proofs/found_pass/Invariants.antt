@@ -1,4 +1,4 @@
-use Rattle.std.proofs.Common.{◌≡◌, ℕ, ◌-◌, ◌<◌, ◌≤◌, length}
+use Rattle.std.proofs.Common.{◌≡◌, ◌-◌, ◌≤◌, length}
 use Rattle.closing.specs.Sets.{holds}
 use Rattle.turns.specs.Meaning.{book_of}
 use Rattle.turns.specs.Table.{Never, MarkedTo}

@@ -1,4 +1,4 @@
-use Rattle.std.proofs.Common.{◌<◌, ◌⊎◌, length, get_or, inl, inr, arith}
+use Rattle.std.proofs.Common.{◌<◌, length, get_or, inl, inr, arith}
 use Rattle.rulebook.specs.Rows.{blank}
 use Rattle.turns.proofs.Steps.{run_codes}
 use Rattle.turns.proofs.Marks.{mark_row}

@@ -1,4 +1,4 @@
-use Rattle.std.proofs.Common.{◌≡◌, ◌*◌, ◌<◌, length, get_or, sym, subst, arith}
+use Rattle.std.proofs.Common.{length, get_or, sym, subst, arith}
 use Rattle.turns.specs.Table.{Through, HoldAt, LawTurn}
 use Rattle.source.specs.Plans.{UpTo}
 use Rattle.closing.specs.declared.Step.TheVariants.{Changed, Clash}

@@ -1,4 +1,4 @@
-use Rattle.std.proofs.Common.{◌*◌, ◌<◌, ◌⊎◌, length, subst, inl, inr, arith}
+use Rattle.std.proofs.Common.{◌*◌, ◌<◌, length, subst, inl, inr, arith}
 use Rattle.closing.specs.Turns.{Made}
 use Rattle.turns.proofs.Steps.{turn_many, turn_head, turn_empty, turn_bar, turn_one, turn_idle}
 use Rattle.turns.proofs.rule_step.Goals as goal

@@ -1,4 +1,4 @@
-use Rattle.std.proofs.Common.{◌≡◌, ◌+◌, ◌-◌, ◌<◌, length, get_or, take, drop, subst, arith}
+use Rattle.std.proofs.Common.{◌≡◌, ◌+◌, ◌-◌, length, get_or, take, drop, subst, arith}
 use Rattle.turns.specs.Table.{LawTurn, AllOf, HoldAt}
 use Rattle.rulebook.specs.Rows.{blank}
 use Rattle.turns.proofs.Supported.{several_turn, nobody_turn, only_turn, only_idle}

@@ -1,14 +1,14 @@
-use Rattle.std.proofs.Common.{◌≡◌, ℕ, ◌+◌, ◌-◌, ◌<◌, ◌≤◌, length, get_or, take, drop, sym, ap, ◌∙◌, subst, arith}
+use Rattle.std.proofs.Common.{◌≡◌, ℕ, ◌+◌, ◌-◌, length, get_or, take, drop, sym, subst, arith}
 use Rattle.source.specs.Plans.{Partial}
 use Rattle.closing.specs.Turns.{Turn}
 use Rattle.closing.specs.Sets.{Codes}
 use Rattle.clauses.specs.Clauses.{one_clause, run0, clause_at}
-use Rattle.clauses.specs.Sounds.{clauses_ok_lem, ClausesOk, clause_codes}
+use Rattle.clauses.specs.Sounds.{clauses_ok_lem, clause_codes}
 use Rattle.clauses.proofs.Turns.{row_turn}
 use Rattle.clauses.proofs.ClauseListRules.turn.Goals as goal
 
-pub slice-bounds-clause_turn-end : goal.slice-bounds-clause_turn-end
-slice-bounds-clause_turn-end c =
+pub slice_bounds-clause_turn-end : goal.slice_bounds-clause_turn-end
+slice_bounds-clause_turn-end c =
     let s = c.args.self.now in
     (clauses_ok_lem s.width s.runs.now s.entries.now s.sound).runs c.args.k c.requires.at
 
