@@ -2,10 +2,10 @@
 use Rattle.std.proofs.Common.{◌≡◌, ℕ, zero, suc, ◌<◌, ◌≤◌, ◌≢◌, ◌⊎◌, List, length, get_or, Some, None, Option, sym, refl, ap, ◌∙◌, subst, inl, inr, ⊎_elim, arith}
 use Rattle.std.proofs.lemmas.List.{ext_get_or, get_or-set_same, get_or-set_other, length-set}
 use Rattle.std.proofs.lemmas.Bool.{cases_eq}
-use Rattle.source.specs.Plans.{Partial, Whole, Agrees, Before, First}
+use Rattle.source.specs.Plans.{Partial, Agrees, Before, First}
 use Rattle.base.specs.Laws.{Out, clash, fits, Lawful}
-use Rattle.base.proofs.Partials.{small, partial_from, whole_from, whole_decided, whole_partial}
-use Rattle.first.specs.Tree.{lowest, unset, with, or_else, Node, dead, leaf, split, seen, node_of, answer_at, tree, Below, Finds, FirstStands}
+use Rattle.base.proofs.Partials.{small, partial_from, whole_from}
+use Rattle.first.specs.Tree.{lowest, unset, with, or_else, seen, node_of, answer_at, tree, Below, Finds, FirstStands}
 use Rattle.first.proofs.Zeros.{low_zero, low_within, low_below, unset_with, none_unset, unset_less, unset_long}
 
 -- a value more at the lowest undecided statement keeps a partial a partial

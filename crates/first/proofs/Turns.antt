@@ -1,9 +1,9 @@
 -- One extension, and what it leaves of the answer and of the steps.
-use Rattle.std.proofs.Common.{◌≡◌, ℕ, zero, suc, ◌+◌, ◌<◌, ◌≤◌, List, [], ◌∷◌, length, get_or, set, Some, None, Option, sym, refl, ap, ◌∙◌, subst, arith}
+use Rattle.std.proofs.Common.{◌≡◌, ℕ, zero, suc, ◌+◌, ◌<◌, ◌≤◌, List, ◌∷◌, Some, None, Option, refl, arith}
 use Rattle.source.specs.Plans.{Partial}
 use Rattle.base.specs.Laws.{Out, clash, fits, Lawful}
-use Rattle.first.specs.Tree.{lowest, unset, with, or_else, next_if, Node, dead, leaf, split, seen, node_of, answer_at, count_at, tree, count}
-use Rattle.first.specs.Agenda.{answers, left, Turned, done, go, turn_of, answer_after, left_after}
+use Rattle.first.specs.Tree.{unset, with, or_else, next_if, Node, leaf, split, seen, node_of, answer_at, count_at, tree, count}
+use Rattle.first.specs.Agenda.{answers, left, turn_of, answer_after, left_after}
 use Rattle.first.proofs.Zeros.{unset_long}
 use Rattle.first.proofs.Firsts.{partial_with, fewer}
 

@@ -1,5 +1,5 @@
 -- The undecided statements of a partial.
-use Rattle.std.proofs.Common.{◌≡◌, ℕ, zero, suc, ◌+◌, ◌<◌, ◌≤◌, List, [], ◌∷◌, length, get_or, set, refl, arith}
+use Rattle.std.proofs.Common.{◌≡◌, ℕ, zero, suc, ◌<◌, ◌≤◌, List, [], ◌∷◌, length, get_or, refl, arith}
 use Rattle.first.specs.Tree.{lowest, unset, with}
 
 pub low_zero : (r : List ℕ) → get_or r (lowest r) 0 ≡ 0

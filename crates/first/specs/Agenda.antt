@@ -1,9 +1,9 @@
 -- The tree one extension at a time: the partials yet to be extended, the next first.
 --   answers      the answer from an agenda           left      the extensions that it takes
---   turn_of       what an extension makes of an agenda
+--   turn_of      what an extension makes of an agenda
 --   Low          every entry is a partial, with room for those below it
---   TurnsStand  a turn keeps the answer and takes one extension off
-use Rattle.std.specs.Prelude.{◌≡◌, ℕ, zero, suc, ◌+◌, ◌≤◌, List, [], ◌∷◌, length, Some, None, Option}
+--   TurnsStand   a turn keeps the answer and takes one extension off
+use Rattle.std.specs.Prelude.{◌≡◌, ℕ, suc, ◌+◌, ◌≤◌, List, [], ◌∷◌, length, Some, None, Option}
 use Rattle.source.specs.Plans.{Partial}
 use Rattle.base.specs.Laws.{Out}
 use Rattle.first.specs.Tree.{tree, count, or_else, next_if, with, unset, node_of, Node, dead, leaf, split}

@@ -5,7 +5,7 @@
 --   Below    the plans that agree with a partial
 --   Finds    an answer as the first plan, or none exactly when there is none
 --   FirstStands  the tree gives the first plan below every partial
-use Rattle.std.specs.Prelude.{◌≡◌, ℕ, zero, suc, ◌+◌, List, [], ◌∷◌, Some, None, Option, slice_set}
+use Rattle.std.specs.Prelude.{ℕ, zero, suc, ◌+◌, List, [], ◌∷◌, Some, None, Option, slice_set}
 use Rattle.source.specs.Plans.{First, Agrees, Partial}
 use Rattle.base.specs.Laws.{Out, clash, fits}
 

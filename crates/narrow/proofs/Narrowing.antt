@@ -1,5 +1,5 @@
 -- The narrowed outcome, from what looking ahead finds.
-use Rattle.std.proofs.Common.{◌≡◌, ℕ, Bool, true, false, cond, List, ap, ◌∙◌, inl, inr}
+use Rattle.std.proofs.Common.{◌≡◌, ℕ, List, ap, ◌∙◌, inl, inr}
 use Rattle.std.proofs.lemmas.Bool.{cases_Bool, cond-true, cond-false}
 use Rattle.base.specs.Laws.{Out, clash, fits}
 use Rattle.narrow.specs.Meeting.{MayMeet, may_meet, narrowed, Cut}

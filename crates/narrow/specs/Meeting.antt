@@ -2,12 +2,12 @@
 --   MeetingPlan  a plan below that meets the group
 --   CanFail      an undecided statement that can still fail
 --   MayMeet      the group is met, or a marked statement can still fail
---   may_meet      the same as a test
+--   may_meet     the same as a test
 --   narrowed     the outcome: that below, and a clash also where the group can no longer be met
 --   Cut          the base clashes, or the group can no longer be met
 --   Ahead        what looking ahead from a partial finds
 --   Narrows      what extending does to a partial
---   CutStands   a cut drops no plan that meets the group
+--   CutStands    a cut drops no plan that meets the group
 use Rattle.std.specs.Prelude.{◌≡◌, ℕ, zero, suc, ◌<◌, Bool, true, false, cond, not, ◌&&◌, ◌||◌, ◌⊎◌, List, length, ◌==◌, ◌≢◌, nat_eq, slice_index, slice_set}
 use Rattle.source.specs.Plans.{Partial, Agrees, Marks, FailsMarked, Meets}
 use Rattle.base.specs.Laws.{Out, clash, fits}

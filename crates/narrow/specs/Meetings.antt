@@ -1,9 +1,9 @@
 -- The laws of the plans that meet a group, from the laws of the base below: the cut drops no plan that meets the group.
-use Rattle.std.specs.Prelude.{◌≡◌, ℕ, zero, suc, ◌<◌, ◌≤◌, Bool, true, false, cond, not, ◌&&◌, ◌||◌, ◌≢◌, ◌⊎◌, List, length, ◌==◌, slice_index, slice_set, refl}
+use Rattle.std.specs.Prelude.{◌≡◌, ℕ, zero, suc, ◌<◌, Bool, true, false, cond, not, ◌&&◌, ◌||◌, ◌≢◌, ◌⊎◌, List, length, ◌==◌, slice_index, slice_set, refl}
 use Rattle.std.proofs.Common.{sym, ap, ◌∙◌, inl, inr, arith}
 use Rattle.std.proofs.lemmas.Bool.{eq-eqb, eqb-true, and_from, and_parts, true≢false, cases_eq, cases_lt, cases_Bool, or_cases, or_left, or_right, not_from_false}
 use Rattle.std.proofs.lemmas.List.{get_or_past, get_or-set_same, get_or-set_other, length-set}
-use Rattle.source.specs.Plans.{Partial, Whole, Agrees, Marks, FailsMarked, Meets}
+use Rattle.source.specs.Plans.{Partial, Whole, Agrees, FailsMarked, Meets}
 use Rattle.base.specs.Laws.{Out, clash, fits, Lawful}
 use Rattle.base.proofs.Partials.{small, partial_from}
 use Rattle.narrow.specs.Meeting.{MeetingPlan, CanFail, MayMeet, some_below, fitting, may_meet, narrowed}

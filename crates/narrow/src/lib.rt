@@ -28,10 +28,10 @@ impl<'a, 'b, B> Meeting<'a, 'b, B> {
 
 // Whether the statement is undecided and the base below extends the partial with it failing.
 fn can_fail<B: Base>(base: &B, partial: &[u8], trial: &mut [u8], k: usize) -> bool
-    requires partial { Partial (wide base.now) partial.now }
-    requires trial { length trial.old ≡ wide base.now }
+    requires partial { Partial (B.wide base.now) partial.now }
+    requires trial { length trial.old ≡ B.wide base.now }
     requires at { k < length partial.now }
-    ensures { MatchBool result (CanFail (outcome base.now) partial.now k) (CanFail (outcome base.now) partial.now k → ⊥) }
+    ensures { MatchBool result (CanFail (B.outcome base.now) partial.now k) (CanFail (B.outcome base.now) partial.now k → ⊥) }
 {
     if partial[k] != 0 {
         return false;
@@ -49,9 +49,9 @@ fn can_fail<B: Base>(base: &B, partial: &[u8], trial: &mut [u8], k: usize) -> bo
 
 // Whether the group is met, or a marked statement can still fail.
 fn may_meet<B: Base>(base: &B, group: &[u8], partial: &[u8], trial: &mut [u8]) -> bool
-    requires partial { Partial (wide base.now) partial.now }
-    requires trial { length trial.old ≡ wide base.now }
-    ensures { MatchBool result (MayMeet (outcome base.now) group.now partial.now) (MayMeet (outcome base.now) group.now partial.now → ⊥) }
+    requires partial { Partial (B.wide base.now) partial.now }
+    requires trial { length trial.old ≡ B.wide base.now }
+    ensures { MatchBool result (MayMeet (B.outcome base.now) group.now partial.now) (MayMeet (B.outcome base.now) group.now partial.now → ⊥) }
 {
     if !marks_any(group) {
         return true;
@@ -75,10 +75,10 @@ fn look_ahead<B: Base>(
     own: &mut [u8],
     trial: &mut [u8],
 ) -> Outcome
-    requires partial { Partial (wide base.now) partial.now }
-    requires own { length own.old ≡ wide base.now }
-    requires trial { length trial.old ≡ wide base.now }
-    ensures { Ahead (outcome base.now) group.now partial.now result own.new }
+    requires partial { Partial (B.wide base.now) partial.now }
+    requires own { length own.old ≡ B.wide base.now }
+    requires trial { length trial.old ≡ B.wide base.now }
+    ensures { Ahead (B.outcome base.now) group.now partial.now result own.new }
 {
     own.copy_from_slice(partial);
     match base.extend(own) {
@@ -104,10 +104,10 @@ fn extend_meeting<B: Base>(
     own: &mut [u8],
     trial: &mut [u8],
 ) -> Outcome
-    requires partial { Partial (wide base.now) partial.old }
-    requires own { length own.old ≡ wide base.now }
-    requires trial { length trial.old ≡ wide base.now }
-    ensures { Narrows (outcome base.now) group.now partial.old result partial.new }
+    requires partial { Partial (B.wide base.now) partial.old }
+    requires own { length own.old ≡ B.wide base.now }
+    requires trial { length trial.old ≡ B.wide base.now }
+    ensures { Narrows (B.outcome base.now) group.now partial.old result partial.new }
 {
     match look_ahead(base, group, partial, own, trial) {
         Outcome::Fits => {
@@ -152,7 +152,7 @@ impl<'a, 'b, B: Base> Base for Meeting<'a, 'b, B> {
 
 // A cut drops no plan that meets the group.
 pub fn cut_stands<B: Base>(base: &B, group: &[u8]) -> u8
-    ensures { CutStands (wide base.now) (plan base.now) (outcome base.now) group.now }
+    ensures { CutStands (B.wide base.now) (B.plan base.now) (B.outcome base.now) group.now }
 {
     0
 }

@@ -1,11 +1,11 @@
 -- From the first plan that meets the group and agrees with the pins to the first that serves.
-use Rattle.std.proofs.Common.{◌≡◌, ℕ, List, Ok, Err, Result}
+use Rattle.std.proofs.Common.{ℕ, List, Ok, Err, Result}
 use Rattle.source.specs.declared.Refusal.{Refusal}
 use Rattle.source.specs.declared.Refusal.TheVariants.{Length, Value, Mark, Wide}
 use Rattle.source.specs.declared.Answer.{Answer}
 use Rattle.source.specs.declared.Answer.TheVariants.{Plan, Nothing}
 use Rattle.source.specs.Plans.{Of}
-use Rattle.source.specs.Asked.{Taken}
+use Rattle.source.specs.Asked.{Taken, Asked}
 use Rattle.base.specs.Laws.{Out, Lawful}
 use Rattle.narrow.specs.Meeting.{MeetingPlan}
 use Rattle.first.specs.Tree.{Below}
@@ -31,3 +31,10 @@ module _ (w : ℕ) (plan : List ℕ → Type 0) (o : List ℕ → Out) (laws : L
   pub first_serves : (r : Result Answer Refusal) → FirstAgreeing w (MeetingPlan plan group) pins before r after → FirstAsked w (Of w plan) pins group before r after
   first_serves (Err e) f = absurd (not_unfit e f.0)
   first_serves (Ok a) f = (t, meeting_serves a f.1)
+
+-- the first plan that serves is one that serves, and none is none
+pub first_asked : (w : ℕ) (plan : List ℕ → Type 0) (pins group before after : List ℕ) (r : Result Answer Refusal)
+    → FirstAsked w plan pins group before r after → Asked w plan pins group before r after
+first_asked w plan pins group before after (Err e) f = f
+first_asked w plan pins group before after (Ok Plan) f = (f.0, f.1.good.0, f.1.good.1)
+first_asked w plan pins group before after (Ok Nothing) f = (f.0, (λ p a s. f.1.0 p (a, s)), f.1.1)

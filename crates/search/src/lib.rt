@@ -39,6 +39,7 @@ impl<B: Base> Source for Search<B> {
     }
 
     // The plan given is the first that serves.
+    #[tactic(auto, using(crate::proofs::Asking::first_asked))]
     fn question(&self, pins: &[u8], group: &[u8], place: &mut [u8]) -> Result<Answer, Refusal>
         ensures asked { Asked (B.Base.wide self.now.base) (Of (B.Base.wide self.now.base) (B.Base.plan self.now.base)) pins.now group.now place.old result place.new }
         ensures first { FirstAsked (B.Base.wide self.now.base) (Of (B.Base.wide self.now.base) (B.Base.plan self.now.base)) pins.now group.now place.old result place.new }
@@ -55,7 +56,7 @@ fn first_of<B: Base>(
     group: &[u8],
     place: &mut [u8],
 ) -> Result<Answer, Refusal>
-    ensures { FirstAsked (wide base.now) (Of (wide base.now) (plan base.now)) pins.now group.now place.old result place.new }
+    ensures { FirstAsked (B.wide base.now) (Of (B.wide base.now) (B.plan base.now)) pins.now group.now place.old result place.new }
 {
     match refusal(base.width(), pins, group, place) {
         Some(cause) => Err(cause),

@@ -5,7 +5,7 @@ use base::{Base, Outcome};
 use clauses::ClauseRefusal;
 use clauses::list::ClauseList;
 use clauses::run::Run;
-use closing::{Closing, Rules};
+use closing::Closing;
 use search::Search;
 use source::bytes::{byte_at, marks_any};
 use source::{Answer, Refusal};

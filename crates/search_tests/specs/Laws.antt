@@ -1,9 +1,9 @@
 -- The laws of the base whose plans hold somewhere.
-use Rattle.std.specs.Prelude.{◌≡◌, ℕ, zero, suc, ◌≤◌, Bool, true, false, cond, ◌&&◌, List, [], ◌∷◌, length, ◌==◌, refl}
+use Rattle.std.specs.Prelude.{◌≡◌, ℕ, suc, ◌≤◌, Bool, true, false, cond, List, [], ◌∷◌, length, ◌==◌, refl}
 use Rattle.std.proofs.Common.{sym, ap, subst, ◌∙◌, arith}
 use Rattle.std.proofs.lemmas.Bool.{eq-eqb, eqb-true, and_from, and_parts, true≢false}
 use Rattle.source.specs.Plans.{Partial, Agrees}
-use Rattle.base.specs.Laws.{Out, clash, fits, Lawful}
+use Rattle.base.specs.Laws.{clash, fits, Lawful}
 use Rattle.search_tests.specs.SomeHolds.{all_fail, HoldsSomewhere, some_outcome}
 
 -- what agrees with a row where all fail is such a row

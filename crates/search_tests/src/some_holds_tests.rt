@@ -2,7 +2,6 @@
 use crate::comparing::same_for_all;
 use crate::enumerator::Rows;
 use crate::some_holds::SomeHolds;
-use base::Base;
 use search::Search;
 use source::{Answer, Refusal, Source};
 

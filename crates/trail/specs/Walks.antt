@@ -1,9 +1,9 @@
 -- An agenda as a walk keeps it: one partial, a mark for each statement, and the choices that wait.
 -- A mark says how many choices waited when the statement was decided; 65535 says that it has no mark.
 --   keep_b, keep_m  what stands of the bytes and the marks after a step back
---   note_m         the marks after an extension
---   waits         the partials that wait
---   Walk          bytes, marks and choices that keep such an agenda
+--   note_m          the marks after an extension
+--   waits           the partials that wait
+--   Walk            bytes, marks and choices that keep such an agenda
 use Rattle.std.specs.Prelude.{◌≡◌, ℕ, zero, suc, ◌<◌, ◌≤◌, cond, ◌⊎◌, List, [], ◌∷◌, length, ◌==◌, nat_lt, slice_index, slice_set}
 use Rattle.first.specs.Agenda.{Low}
 

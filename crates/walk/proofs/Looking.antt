@@ -1,9 +1,9 @@
 -- What an extension shows, from what `extend` promises.
-use Rattle.std.proofs.Common.{◌≡◌, ℕ, zero, suc, ◌<◌, ◌≤◌, List, [], ◌∷◌, length, get_or, refl, ap, ◌∙◌, inl, inr, arith}
+use Rattle.std.proofs.Common.{◌≡◌, ℕ, zero, suc, ◌<◌, ◌≤◌, List, [], ◌∷◌, length, refl, ap, ◌∙◌, inl, inr, arith}
 use Rattle.std.proofs.lemmas.Bool.{cases_lt}
 use Rattle.source.specs.Plans.{Partial}
 use Rattle.base.specs.Laws.{Out, fits, Lawful}
-use Rattle.first.specs.Tree.{unset, lowest, Node, leaf, split, seen, node_of}
+use Rattle.first.specs.Tree.{unset, lowest, split, seen, node_of}
 use Rattle.first.proofs.Zeros.{low_zero, low_below, low_some, low_none}
 use Rattle.walk.specs.declared.steps.Look.{Look}
 use Rattle.walk.specs.declared.steps.Look.TheVariants.{Dead, Leaf, Split}

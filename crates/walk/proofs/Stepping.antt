@@ -1,14 +1,14 @@
 -- One step of the walk, from what its parts promise.
-use Rattle.std.proofs.Common.{◌≡◌, ℕ, zero, suc, ◌+◌, ◌-◌, ◌<◌, ◌≤◌, List, [], ◌∷◌, length, get_or, set, Some, None, sym, refl, ap, ◌∙◌, subst, arith}
+use Rattle.std.proofs.Common.{◌≡◌, ℕ, zero, suc, ◌-◌, ◌<◌, ◌≤◌, List, [], ◌∷◌, length, get_or, set, Some, None, sym, refl, ap, ◌∙◌, subst, arith}
 use Rattle.source.specs.Plans.{Partial, Agrees}
 use Rattle.base.specs.Laws.{Out, Lawful}
 use Rattle.first.specs.Tree.{unset, lowest, with, Node, dead, leaf, split, node_of}
 use Rattle.first.specs.Agenda.{answers, left, turn_of, answer_after, left_after}
-use Rattle.first.proofs.Zeros.{low_within, low_some}
+use Rattle.first.proofs.Zeros.{low_some}
 use Rattle.first.proofs.Turns.{answer_turned, left_turned}
 use Rattle.trail.specs.Walks.{keep_b, keep_m, note_m, waits, Walk}
 use Rattle.trail.proofs.States.{extended, extended_waits, waits_length, split_room, split_waits, split_walk, back_waits, back_walk}
-use Rattle.walk.specs.declared.steps.Turn.TheVariants.{Found, Ended, More}
+use Rattle.walk.specs.declared.steps.Turn.TheVariants.{More}
 use Rattle.walk.specs.Turning.{Lowest, Turns}
 use Rattle.walk.proofs.Looking.{lowest_is}
 

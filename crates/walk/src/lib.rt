@@ -17,7 +17,7 @@ mod steps;
 // The first plan that agrees with the pins goes into the place; if there is none, or the pins or the place do not fit
 // the base, the place stays as it was.
 pub fn first_agreeing<B: Base>(base: &B, pins: &[u8], place: &mut [u8]) -> Result<Answer, Refusal>
-    ensures { FirstAgreeing (wide base.now) (plan base.now) pins.now place.old result place.new }
+    ensures { FirstAgreeing (B.wide base.now) (B.plan base.now) pins.now place.old result place.new }
 {
     let w = base.width();
     match unfit(w, pins, place) {
@@ -57,12 +57,12 @@ fn first_below<B: Base>(
     marks: &mut [u16],
     choices: &mut [u16],
 ) -> Answer
-    requires pins { Partial (wide base.now) pins.now }
-    requires place { length place.old ≡ wide base.now }
-    requires bytes { length bytes.old ≡ wide base.now }
-    requires marks { length marks.old ≡ wide base.now }
-    requires choices { length choices.old ≡ wide base.now }
-    ensures { FirstOf (Below (plan base.now) pins.now) place.old result place.new }
+    requires pins { Partial (B.wide base.now) pins.now }
+    requires place { length place.old ≡ B.wide base.now }
+    requires bytes { length bytes.old ≡ B.wide base.now }
+    requires marks { length marks.old ≡ B.wide base.now }
+    requires choices { length choices.old ≡ B.wide base.now }
+    ensures { FirstOf (Below (B.plan base.now) pins.now) place.old result place.new }
 {
     wipe(bytes, marks, 0);
     bytes.copy_from_slice(pins);

@@ -35,8 +35,8 @@ fn look_of(partial: &[u8]) -> Look
 
 // Extends the bytes and looks at them.
 fn look_at<B: Base>(base: &B, bytes: &mut [u8]) -> Look
-    requires { Partial (wide base.now) bytes.old }
-    ensures { Looks (wide base.now) (outcome base.now) bytes.old bytes.new result }
+    requires { Partial (B.wide base.now) bytes.old }
+    ensures { Looks (B.wide base.now) (B.outcome base.now) bytes.old bytes.new result }
 {
     match base.extend(bytes) {
         Ok(outcome) => match outcome {
@@ -55,8 +55,8 @@ fn step<B: Base>(
     choices: &mut [u16],
     level: u16,
 ) -> Turn
-    requires { Walk (wide base.now) level marks.old choices.old bytes.old }
-    ensures { Turns (wide base.now) (outcome base.now) (bytes.old ∷ waits level marks.old choices.old bytes.old) marks.new choices.new bytes.new result }
+    requires { Walk (B.wide base.now) level marks.old choices.old bytes.old }
+    ensures { Turns (B.wide base.now) (B.outcome base.now) (bytes.old ∷ waits level marks.old choices.old bytes.old) marks.new choices.new bytes.new result }
 {
     match look_at(base, bytes) {
         Look::Leaf => Turn::Found,
@@ -73,8 +73,8 @@ fn step<B: Base>(
 
 // Steps until a plan is found, which is then in the bytes, or nothing is left to try.
 pub fn run<B: Base>(base: &B, bytes: &mut [u8], marks: &mut [u16], choices: &mut [u16]) -> bool
-    requires { Walk (wide base.now) 0 marks.old choices.old bytes.old }
-    ensures { Ran (wide base.now) (outcome base.now) bytes.old bytes.new result }
+    requires { Walk (B.wide base.now) 0 marks.old choices.old bytes.old }
+    ensures { Ran (B.wide base.now) (B.outcome base.now) bytes.old bytes.new result }
 {
     let mut level: u16 = 0;
     'steps: loop {

@@ -1,4 +1,4 @@
-use Rattle.std.proofs.Common.{◌≡◌, ◌<◌, ◌≤◌, length, get_or, sym, ap, ◌∙◌, arith}
+use Rattle.std.proofs.Common.{◌≡◌, ◌<◌, length, get_or, sym, ap, ◌∙◌, arith}
 use Rattle.trail.specs.Walks.{note_m, note_one}
 use Rattle.walk.proofs.Loops.{written_more, written_all}
 use Rattle.trail.proofs.States.{note_m_at, note_m_long}

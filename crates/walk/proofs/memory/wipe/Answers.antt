@@ -1,4 +1,4 @@
-use Rattle.std.proofs.Common.{◌≡◌, ◌<◌, ◌≤◌, cond, ltb, length, get_or, sym, ap, ◌∙◌, arith}
+use Rattle.std.proofs.Common.{◌≡◌, ◌<◌, cond, ltb, length, get_or, sym, ap, ◌∙◌, arith}
 use Rattle.trail.specs.Walks.{keep_b, keep_m}
 use Rattle.walk.proofs.Loops.{written_more, written_all}
 use Rattle.trail.proofs.States.{keep_b_at, keep_b_long, keep_m_at, keep_m_long}
