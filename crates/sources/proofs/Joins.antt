@@ -1,10 +1,10 @@
 -- A joining of two plans serves exactly where its halves do: pins and group are cut where the first plan ends.
-use Rattle.std.proofs.Common.{◌≡◌, ℕ, ◌+◌, ◌-◌, ◌<◌, ◌≤◌, min, Bool, true, false, cond, ◌⊎◌, List, [], ◌++◌, length, get_or, take, drop, MatchBool, sym, refl, ap, ◌∙◌, subst, inl, inr, ⊎_elim, arith}
+use Rattle.std.proofs.Common.{◌≡◌, ℕ, ◌+◌, ◌-◌, ◌<◌, ◌≤◌, Bool, true, false, cond, ◌⊎◌, List, [], ◌++◌, length, get_or, take, drop, sym, refl, ap, ◌∙◌, subst, inl, inr, ⊎_elim, arith}
 use borrow.Rule.Slice.PartMut.{put_mid, post_of}
 use Rattle.std.proofs.lemmas.List.{length-take, length-append, get_or-take, get_or-drop, get_or_past, get_or_append_left, get_or-append-add, length-drop, take_at, drop_all, append-nil}
 use Rattle.std.proofs.lemmas.Bool.{cases_lt}
 use Rattle.source.specs.Plans.{Whole, Of, Agrees, Marks, FailsMarked, Meets, Serves}
-use Rattle.sources.specs.Joined.{Joining, Serving, BothServing, FoundBoth, JoiningServes, AskedOne, AskedBoth, AskedJoining, Answered, answer_of}
+use Rattle.sources.specs.Joined.{Serving, BothServing, FoundBoth, JoiningServes, AskedOne, AskedBoth, AskedJoining, Answered, answer_of}
 use Rattle.source.specs.declared.Answer.{Answer}
 use Rattle.sources.specs.Shares.{Blank, Shared}
 use Rattle.sources.specs.declared.pair.Share.TheVariants.{First, Second, Either}

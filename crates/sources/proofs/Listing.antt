@@ -1,5 +1,5 @@
 -- Rows lie inside what is lent and are whole partials, and the first row that serves answers a question.
-use Rattle.std.proofs.Common.{◌≡◌, ℕ, suc, ◌+◌, ◌-◌, ◌*◌, ◌<◌, ◌≤◌, min, ◌⊎◌, List, length, get_or, take, drop, Some, None, Ok, Option, sym, refl, ap, ◌∙◌, subst, inl, inr, ⊎_elim, mul-le-mul_right, suc-mul, arith, MatchOption}
+use Rattle.std.proofs.Common.{◌≡◌, ℕ, ◌+◌, ◌*◌, ◌<◌, ◌≤◌, List, length, get_or, drop, Some, None, Ok, Option, sym, ◌∙◌, subst, inl, inr, ⊎_elim, mul-le-mul_right, suc-mul, arith, MatchOption}
 use Rattle.source.specs.Plans.{Whole, Of, Serves}
 use Rattle.source.specs.Asked.{Taken, Asked}
 use Rattle.source.specs.declared.Answer.{Answer}

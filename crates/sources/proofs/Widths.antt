@@ -1,5 +1,5 @@
 -- The width that a pair reports, the zeros that it lends, and its answer to a question that is not refused.
-use Rattle.std.proofs.Common.{◌≡◌, ℕ, ◌+◌, ◌-◌, ◌<◌, ◌≤◌, true, false, cond, leb, ◌⊎◌, List, ◌++◌, length, get_or, take, replicate, Ok, sym, refl, ap, ◌∙◌, subst, ⊎_elim, arith}
+use Rattle.std.proofs.Common.{◌≡◌, ℕ, ◌+◌, ◌-◌, ◌<◌, ◌≤◌, true, false, leb, List, length, get_or, take, replicate, Ok, sym, ap, ◌∙◌, subst, ⊎_elim, arith}
 use Rattle.std.proofs.lemmas.List.{length-replicate, take-replicate, get_or-replicate, get_or_past}
 use Rattle.std.proofs.lemmas.Bool.{cases_lt, cases_Bool, leb-true, cond-true, cond-false}
 use Rattle.source.specs.Plans.{Whole, Of}

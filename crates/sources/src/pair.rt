@@ -144,8 +144,8 @@ fn share_of(first_group: &[u8], second_group: &[u8]) -> Share
 
 // Asks a source a question that it does not refuse.
 fn ask<Q: Source>(source: &Q, pins: &[u8], group: &[u8], place: &mut [u8]) -> bool
-    requires { Taken (wide source.now) pins.now group.now place.old }
-    ensures { AskedOne (wide source.now) (plan source.now) pins.now group.now result place.new }
+    requires { Taken (Q.wide source.now) pins.now group.now place.old }
+    ensures { AskedOne (Q.wide source.now) (Q.plan source.now) pins.now group.now result place.new }
 {
     match source.question(pins, group, place) {
         Ok(answer) => match answer {

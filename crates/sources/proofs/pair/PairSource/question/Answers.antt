@@ -1,4 +1,3 @@
-use Rattle.std.proofs.Common.{arith}
 use Rattle.sources.proofs.Widths.{pair_taken, zeros_cut, pair-answers}
 use Rattle.sources.proofs.pair.PairSource.question.Goals as goal
 
