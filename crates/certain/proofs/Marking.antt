@@ -1,13 +1,13 @@
 -- What a question with the group of one statement says of that statement.
-use Rattle.std.proofs.Common.{◌≡◌, ℕ, ◌<◌, ◌≤◌, true, false, ◌⊎◌, List, length, get_or, set, replicate, Ok, Err, Result, sym, refl, ap, ◌∙◌, subst, inl, inr, ⊎_elim, arith}
+use Rattle.std.proofs.Common.{◌≡◌, ℕ, ◌<◌, ◌≤◌, true, false, List, length, get_or, replicate, Ok, Err, Result, sym, ap, ◌∙◌, subst, ⊎_elim, arith}
 use Rattle.std.proofs.lemmas.List.{length-replicate, length-set, get_or-replicate, get_or_past, get_or-set_same, get_or-set_other, set_past}
 use Rattle.std.proofs.lemmas.Bool.{cases_lt, cases_eq}
-use Rattle.source.specs.Plans.{Whole, Of, Agrees, Marks, FailsMarked, Meets, Serves}
-use Rattle.source.specs.Asked.{Taken, Asked}
+use Rattle.source.specs.Plans.{Of}
+use Rattle.source.specs.Asked.{Asked}
 use Rattle.source.specs.declared.Refusal.{Refusal}
 use Rattle.source.specs.declared.Answer.{Answer}
 use Rattle.source.specs.declared.Answer.TheVariants.{Plan, Nothing}
-use Rattle.certain.specs.Certain.{Certain, only_mark, told_by, Told}
+use Rattle.certain.specs.Certain.{only_mark, told_by, Told}
 
 -- no mark where the statement is past the end
 pub past_unmarked : (n k : ℕ) (zs : List ℕ) → n ≤ k → zs ≡ replicate n 0 → zs ≡ only_mark n k

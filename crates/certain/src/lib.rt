@@ -26,7 +26,7 @@ pub fn is_certain<S: Source>(
     group: &mut [u8],
     place: &mut [u8],
 ) -> Result<bool, Refusal>
-    ensures answer { Told (wide source.now) (Of (wide source.now) (plan source.now)) pins.now statement (only_mark (length group.old) statement) place.old result place.new }
+    ensures answer { Told (S.wide source.now) (Of (S.wide source.now) (S.plan source.now)) pins.now statement (only_mark (length group.old) statement) place.old result place.new }
     ensures group { group.new ≡ only_mark (length group.old) statement }
 {
     mark_only(group, statement);
