@@ -1,8 +1,8 @@
 -- What holds in every plan of a source.
---   Certain   a statement that holds in every plan that agrees with the pins
+--   Certain    a statement that holds in every plan that agrees with the pins
 --   only_mark  the group of one statement
 --   told_by    what the answer of a question with that group says
---   Told      what comes of asking whether a statement is certain
+--   Told       what comes of asking whether a statement is certain
 use Rattle.std.specs.Prelude.{◌≡◌, ℕ, Bool, true, false, List, replicate, Ok, Err, Result, ◌≢◌, slice_index, slice_set}
 use Rattle.source.specs.declared.Refusal.{Refusal}
 use Rattle.source.specs.declared.Answer.{Answer}

@@ -2,7 +2,7 @@
 use Rattle.std.specs.Prelude.{◌≡◌, ℕ, ◌<◌, ◌≤◌, Bool, true, false, ◌⊎◌, List, length, Ok, Err, MatchBool, Result, ◌==◌, ◌≢◌, slice_index}
 use Rattle.source.specs.Plans.{UpTo, Marks}
 use Rattle.uses.specs.declared.SheetRefusal.{SheetRefusal}
-use Rattle.uses.specs.declared.SheetRefusal.TheVariants.{Length, Value, Mark, Wide, Unbegun, Begun, NoneOpen, Group, Name, Statement, Pinned, Candidate}
+use Rattle.uses.specs.declared.SheetRefusal.TheVariants.{Length, Value, Mark, Wide, Unbegun, Begun, NoneOpen, Group, Statement, Pinned, Candidate}
 use Rattle.uses.specs.declared.Word.{Word}
 use Rattle.uses.specs.declared.Word.TheVariants.{Open, Certain, Loose}
 use Rattle.uses.specs.Model.{number_of, is_open, counted}

@@ -1,5 +1,5 @@
 -- The techniques of settling by their names, and the ways of a pin.
-use Rattle.std.specs.Prelude.{◌≡◌, ℕ, Bool, true, false, cond, ◌⊎◌, List, Ok, Err, codes, Result, ◌==◌}
+use Rattle.std.specs.Prelude.{◌≡◌, ℕ, cond, ◌⊎◌, List, Ok, Err, codes, Result, ◌==◌}
 use Rattle.std.specs.Str.{bytes_eq}
 use Rattle.uses.specs.declared.SheetRefusal.{SheetRefusal}
 use Rattle.uses.specs.declared.SheetRefusal.TheVariants.{Group, Name}

@@ -1,7 +1,6 @@
 -- The code's table as the state of a sheet.
 use Rattle.std.specs.Prelude.{ℕ, false, cond, ◌==◌}
 use Rattle.uses.specs.Model.{State, word_number}
-use Rattle.table.specs.declared.line.Line.{Line}
 use Rattle.table.specs.declared.table.Table.{Table}
 use Rattle.table.specs.Blank.{line_at}
 

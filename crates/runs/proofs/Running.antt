@@ -4,7 +4,7 @@ use Rattle.std.proofs.lemmas.List.{reverse-append, length-set, take_all}
 use Rattle.source.specs.Plans.{Whole}
 use Rattle.uses.specs.Model.{State, Fresh}
 use Rattle.uses.specs.Step.{Step}
-use Rattle.uses.specs.Use.{Event, event, Use, Calls, from, stop, next}
+use Rattle.uses.specs.Use.{Event, event, Use, from, stop, next}
 use Rattle.uses.proofs.Law
 use Rattle.runs.specs.declared.call.Call.{Call}
 use Rattle.runs.specs.declared.call.Reply.{Reply}

@@ -12,8 +12,8 @@ use source::Source;
 // Makes the call and gives its answer.
 pub fn put<S: Source>(sheet: &mut Sheet<S>, call: &Call<'_>) -> Reply
     ensures source { sheet.new.source ≡ sheet.old.source }
-    ensures step { Steps (wide sheet.old.source) (plan sheet.old.source) sheet.old.table (call_of call.now) (reply_of result) sheet.new.table }
-    ensures law { LawContinues (wide sheet.old.source) (plan sheet.old.source) sheet.old.table (call_of call.now) (reply_of result) sheet.new.table }
+    ensures step { Steps (S.wide sheet.old.source) (S.plan sheet.old.source) sheet.old.table (call_of call.now) (reply_of result) sheet.new.table }
+    ensures law { LawContinues (S.wide sheet.old.source) (S.plan sheet.old.source) sheet.old.table (call_of call.now) (reply_of result) sheet.new.table }
 {
     match call {
         Call::Begin(candidates) => match sheet.begin(candidates) {
@@ -52,7 +52,7 @@ fn lesser(a: usize, b: usize) -> usize
 // Makes a sheet over the source and puts the calls to it in their order, as many as have a place for the reply; the sheet, and how many.
 pub fn run<S: Source>(source: S, calls: &[Call<'_>], replies: &mut [Reply]) -> (Sheet<S>, usize)
     ensures source { result.0.source ≡ source }
-    ensures ran { Ran (wide source) (Of (wide source) (plan source)) calls.now replies.old replies.new result.1 (view (wide source) result.0.table) }
+    ensures ran { Ran (S.wide source) (Of (S.wide source) (S.plan source)) calls.now replies.old replies.new result.1 (view (S.wide source) result.0.table) }
 {
     let mut sheet = Sheet::new(source);
     let made = lesser(calls.len(), replies.len());

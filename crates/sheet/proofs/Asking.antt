@@ -1,5 +1,5 @@
 -- A question asked with parts of longer tables.
-use Rattle.std.proofs.Common.{◌≡◌, ℕ, ◌-◌, ◌<◌, ◌≤◌, Bool, true, false, List, ◌++◌, length, get_or, take, MatchBool, sym, refl, ap, ◌∙◌, subst, arith}
+use Rattle.std.proofs.Common.{◌≡◌, ℕ, ◌<◌, ◌≤◌, Bool, true, false, List, ◌++◌, length, take, MatchBool, sym, subst, arith}
 use Rattle.std.proofs.lemmas.List.{length-take, get_or-take, take_at}
 use Rattle.source.specs.Plans.{UpTo, Serves}
 use Rattle.sheet.specs.Asks.{Served, Unserved, Found, NotFound}

@@ -1,10 +1,9 @@
 -- What begin does to the sheet.
-use Rattle.std.proofs.Common.{◌≡◌, ℕ, zero, suc, ◌<◌, ◌≤◌, Bool, true, false, cond, eqb, List, length, get_or, take, replicate, sym, refl, ap, ◌∙◌, subst, ⊎_elim, arith, eq-eqb}
-use Rattle.source.specs.Plans.{UpTo}
+use Rattle.std.proofs.Common.{◌≡◌, ℕ, ◌<◌, ◌≤◌, Bool, true, false, cond, eqb, List, length, get_or, take, sym, refl, ap, ◌∙◌, ⊎_elim, arith, eq-eqb}
 use Rattle.std.proofs.lemmas.Bool.{cases_lt}
 use Rattle.std.proofs.lemmas.List.{get_or_past, get_or-take}
 use Rattle.table.specs.declared.line.Line.{Line}
-use Rattle.uses.specs.declared.Word.TheVariants.{Open, Certain, Loose}
+use Rattle.uses.specs.declared.Word.TheVariants.{Open, Loose}
 use Rattle.table.specs.declared.table.Table.{Table}
 use Rattle.uses.specs.Model.{State, word_number, begin, done}
 use Rattle.uses.specs.Step.{Effect, begins}

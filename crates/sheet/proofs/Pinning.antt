@@ -1,11 +1,11 @@
 -- What a pin does to the sheet.
-use Rattle.std.proofs.Common.{◌≡◌, ℕ, ◌<◌, ◌≤◌, Bool, true, false, cond, eqb, ◌⊎◌, List, length, get_or, take, replicate, sym, refl, ap, ◌∙◌, subst, ⊎_elim, arith, ne_eqb}
+use Rattle.std.proofs.Common.{◌≡◌, ℕ, ◌<◌, ◌≤◌, Bool, true, false, cond, eqb, ◌⊎◌, List, get_or, take, replicate, sym, refl, ap, ◌∙◌, subst, ⊎_elim, arith, ne_eqb}
 use Rattle.std.proofs.lemmas.Bool.{cases_lt, cases_eq}
 use Rattle.std.proofs.lemmas.List.{get_or-take}
-use Rattle.source.specs.Plans.{UpTo, AgreesAt, Serves}
+use Rattle.source.specs.Plans.{UpTo, AgreesAt}
 use Rattle.uses.specs.declared.Word.{Word}
 use Rattle.uses.specs.declared.Word.TheVariants.{Open, Certain, Loose}
-use Rattle.uses.specs.Model.{State, word_number, pin, done}
+use Rattle.uses.specs.Model.{word_number, pin, done}
 use Rattle.uses.specs.Step.{pinned_at, after_pin, Effect, pins}
 use Rattle.table.specs.declared.line.Line.{Line}
 use Rattle.table.specs.declared.table.Table.{Table}

@@ -7,15 +7,15 @@ use Rattle.uses.specs.declared.SheetRefusal.{SheetRefusal}
 use Rattle.uses.specs.declared.SheetRefusal.TheVariants.{Length, Value, Mark, Wide, Unbegun, Begun, NoneOpen, Group, Name, Statement, Pinned, NoPlan, Candidate}
 use Rattle.uses.specs.declared.Word.{Word}
 use Rattle.uses.specs.declared.Word.TheVariants.{Open, Certain, Loose}
-use Rattle.uses.specs.Model.{word_number, number_of, State, is_open, counted, counted_by, lowest, Call, Reply, begin, settle, settle_by, pin, tell, tally, refused, done, settled, told, tallied}
-use Rattle.uses.specs.Step.{pinned_at, Technique, chunk, Cause, Sent, Settles, Rest, Effect, Step, begin_length, begin_mark, begin_wide, begin_begun, begin_none, settle_length, settle_mark, settle_unbegun, settle_closed, settle_empty, settle_other, by_unbegun, by_closed, by_zero, by_unknown, pin_way, pin_unbegun, pin_outside, pin_again, pin_none, tell_unbegun, tell_outside, tell_other, tally_unbegun, settles, settlesBy, tells, tallies, sent, taken}
+use Rattle.uses.specs.Model.{word_number, number_of, is_open, counted, counted_by, lowest, begin, settle, settle_by, pin, tell, tally, refused, settled, told, tallied}
+use Rattle.uses.specs.Step.{pinned_at, Technique, chunk, Cause, Sent, Settles, Rest, Step, begin_length, begin_mark, begin_wide, begin_begun, begin_none, settle_length, settle_mark, settle_unbegun, settle_closed, settle_empty, settle_other, by_unbegun, by_closed, by_zero, by_unknown, pin_way, pin_unbegun, pin_outside, pin_again, pin_none, tell_unbegun, tell_outside, tell_other, tally_unbegun, settles, settlesBy, tells, tallies, sent, taken}
 use Rattle.uses.proofs.Law
 use Rattle.uses.proofs.Law.{bit_one, bit_none, stable_false, has_mark}
 use Rattle.table.specs.declared.line.Line.{Line}
 use Rattle.uses.specs.declared.Tally.{Tally}
 use Rattle.table.specs.declared.table.Table.{Table}
 use Rattle.table.specs.Blank.{line_at}
-use Rattle.table.specs.Lineup.{line_has, lowest_of}
+use Rattle.table.specs.Lineup.{lowest_of}
 use Rattle.table.proofs.Blanks.{tied}
 use Rattle.sheet.specs.Asks.{Found, NotFound, BegunBy, PinnedBy, IfFound}
 use Rattle.checks.specs.Checks.{open_in, AllOpen, NotOpen, MayBegin, MaySettle, MaySettleBy, MayPin, MayTell, MayTally}

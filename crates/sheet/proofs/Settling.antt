@@ -1,16 +1,15 @@
 -- What a settling does to the sheet.
-use Rattle.std.proofs.Common.{◌≡◌, ℕ, ◌+◌, ◌-◌, ◌<◌, ◌≤◌, Bool, true, false, cond, eqb, List, length, get_or, take, MatchBool, sym, refl, ap, ◌∙◌, subst, ⊎_elim, arith, eq-eqb, eqb-true}
-use borrow.Author.Tests.{both_ways}
+use Rattle.std.proofs.Common.{◌≡◌, ℕ, ◌+◌, ◌<◌, ◌≤◌, Bool, true, false, cond, eqb, List, length, get_or, take, MatchBool, sym, refl, ap, ◌∙◌, subst, ⊎_elim, arith, eq-eqb, eqb-true}
 use Rattle.std.proofs.lemmas.Bool.{cases_lt}
 use Rattle.std.proofs.lemmas.List.{get_or_past, get_or-take, length-take}
-use Rattle.source.specs.Plans.{UpTo, Whole, AgreesAt, Serves}
+use Rattle.source.specs.Plans.{UpTo, Whole, AgreesAt}
 use Rattle.table.specs.declared.line.Line.{Line}
 use Rattle.uses.specs.declared.Word.{Word}
 use Rattle.uses.specs.declared.Word.TheVariants.{Open, Certain, Loose}
 use Rattle.table.specs.declared.table.Table.{Table}
 use Rattle.sheet.specs.Asks.{Found, NotFound}
-use Rattle.table.specs.Blank.{blank, line_at}
-use Rattle.table.specs.Lineup.{line_has, settled_line}
+use Rattle.table.specs.Blank.{line_at}
+use Rattle.table.specs.Lineup.{settled_line}
 use Rattle.uses.specs.Model.{State, is_open, counted, word_number}
 use Rattle.uses.specs.Step.{Settles, Rest, none, some}
 use Rattle.checks.specs.View.{view}

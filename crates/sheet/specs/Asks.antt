@@ -1,5 +1,5 @@
 -- Questions put to a source of the plans `plan`, and what becomes of the table by their answers.
-use Rattle.std.specs.Prelude.{◌≡◌, ℕ, ◌≤◌, true, List, length, take, Ok, Err, Result, ◌==◌, slice_index}
+use Rattle.std.specs.Prelude.{◌≡◌, ℕ, true, List, take, Ok, Err, Result, ◌==◌, slice_index}
 use Rattle.source.specs.Plans.{Serves}
 use Rattle.uses.specs.declared.SheetRefusal.{SheetRefusal}
 use Rattle.uses.specs.declared.SheetRefusal.TheVariants.{NoPlan}

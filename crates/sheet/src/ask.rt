@@ -8,11 +8,11 @@ use table::line::LINES;
 
 // A question that is not refused.
 fn answered<S: Source>(source: &S, pins: &[u8], group: &[u8], place: &mut [u8]) -> bool
-    requires narrow { wide source.now ≤ 512 }
-    requires lengths { (length pins.now ≡ wide source.now) × (length group.now ≡ wide source.now) × (length place.old ≡ wide source.now) }
+    requires narrow { S.wide source.now ≤ 512 }
+    requires lengths { (length pins.now ≡ S.wide source.now) × (length group.now ≡ S.wide source.now) × (length place.old ≡ S.wide source.now) }
     requires pins { UpTo 2 pins.now }
     requires group { UpTo 1 group.now }
-    ensures { MatchBool result (Served (Of (wide source.now) (plan source.now)) pins.now group.now place.new) (Unserved (Of (wide source.now) (plan source.now)) pins.now group.now) }
+    ensures { MatchBool result (Served (Of (S.wide source.now) (S.plan source.now)) pins.now group.now place.new) (Unserved (Of (S.wide source.now) (S.plan source.now)) pins.now group.now) }
 {
     match source.question(pins, group, place) {
         Ok(answer) => match answer {
@@ -35,10 +35,10 @@ pub fn ask<S: Source>(
     group: &[u8; LINES],
     place: &mut [u8; LINES],
 ) -> bool
-    requires narrow { wide source.now ≤ 512 }
+    requires narrow { S.wide source.now ≤ 512 }
     requires pins { UpTo 2 pins.now }
     requires group { UpTo 1 group.now }
-    ensures { MatchBool result (Found (wide source.now) (Of (wide source.now) (plan source.now)) pins.now group.now place.new) (NotFound (wide source.now) (Of (wide source.now) (plan source.now)) pins.now group.now) }
+    ensures { MatchBool result (Found (S.wide source.now) (Of (S.wide source.now) (S.plan source.now)) pins.now group.now place.new) (NotFound (S.wide source.now) (Of (S.wide source.now) (S.plan source.now)) pins.now group.now) }
 {
     let w = source.width();
     answered(source, &pins[0..w], &group[0..w], &mut place[0..w])

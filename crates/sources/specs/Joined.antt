@@ -1,5 +1,5 @@
 -- Two sources joined: the statements of the first, then those of the second.
---   joined_width    how many statements a pair reports
+--   joined_width   how many statements a pair reports
 --   Joining        the plans of a pair
 --   Serving        a plan of a source that serves
 --   BothServing    a plan of each source that serves its half
@@ -8,7 +8,7 @@
 --   AskedOne, AskedBoth, AskedJoining
 --                  such a plan where the answer is true, else that there is none
 --   Answered       what a question answers that is not refused
---   answer_of       the answer of a question that is not refused
+--   answer_of      the answer of a question that is not refused
 use Rattle.std.specs.Prelude.{◌≡◌, ℕ, ◌+◌, ◌≤◌, Bool, true, false, cond, List, ◌++◌, take, drop, MatchBool, nat_le}
 use Rattle.source.specs.Plans.{Of, Serves}
 use Rattle.source.specs.declared.Answer.{Answer}

@@ -1,5 +1,5 @@
 -- Plans as rows of bytes that lie one after the other.
---   row_at         one row
+--   row_at        one row
 --   Among         the plans listed
 --   Decided       bytes that are 1 or 2
 --   Listable      what may be listed

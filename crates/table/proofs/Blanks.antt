@@ -1,5 +1,5 @@
 -- Blank lines.
-use Rattle.std.proofs.Common.{◌≡◌, ℕ, zero, suc, ◌≤◌, Bool, true, false, cond, eqb, List, [], ◌∷◌, get_or, replicate, sym, refl, ap, subst, lit≤, eqb-true}
+use Rattle.std.proofs.Common.{◌≡◌, ℕ, zero, suc, ◌≤◌, Bool, true, false, cond, eqb, get_or, replicate, sym, refl, ap, subst, lit≤, eqb-true}
 use borrow.Author.Tests.{both_ways}
 use Rattle.table.specs.declared.line.Line.{Line}
 use Rattle.table.specs.Blank.{blank, PinsFew, Unmarked, Unpinned}

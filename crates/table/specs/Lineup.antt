@@ -1,5 +1,5 @@
 -- Lines as the calls leave them.
-use Rattle.std.specs.Prelude.{ℕ, Bool, true, false, cond, List, ◌==◌, nat_lt}
+use Rattle.std.specs.Prelude.{ℕ, Bool, false, cond, List, ◌==◌, nat_lt}
 use Rattle.uses.specs.Model.{word_number, counted_by}
 use Rattle.uses.specs.declared.Word.{Word}
 use Rattle.uses.specs.declared.Word.TheVariants.{Open, Certain, Loose}

@@ -1,18 +1,17 @@
 -- The law of whole uses of a sheet.
-use Rattle.std.proofs.Common.{◌≡◌, ℕ, zero, suc, ◌+◌, ◌<◌, ◌≤◌, Bool, true, false, cond, eqb, ltb, ◌⊎◌, ◌↔◌, List, [], ◌∷◌, ◌++◌, length, get_or, codes, sym, refl, ap, ◌∙◌, subst, inl, inr, ⊎_elim, arith, lt-ltb, eq-eqb, ne_eqb, eqb-true}
-use native.Mathlib.Decide.{ℕ_discrete}
-use borrow.Author.Tests.{eqb-false, both_ways}
+use Rattle.std.proofs.Common.{◌≡◌, ℕ, zero, suc, ◌<◌, ◌≤◌, Bool, true, false, cond, eqb, ltb, ◌⊎◌, List, [], ◌∷◌, ◌++◌, length, get_or, codes, sym, refl, ap, ◌∙◌, subst, inl, inr, ⊎_elim, arith, lt-ltb, eq-eqb, ne_eqb, eqb-true}
+use borrow.Author.Tests.{both_ways}
 use Rattle.std.proofs.lemmas.Bool.{cases_Bool, cases_eq, cases_lt}
 use Rattle.std.proofs.lemmas.Bool.Decides.{nat_tests as tests}
 use Rattle.std.proofs.lemmas.List.{get_or_past}
-use Rattle.source.specs.Plans.{Whole, UpTo, AgreesAt}
+use Rattle.source.specs.Plans.{Whole, AgreesAt}
 use Rattle.uses.specs.declared.SheetRefusal.{SheetRefusal}
-use Rattle.uses.specs.declared.SheetRefusal.TheVariants.{Length, Value, Mark, Wide, Unbegun, Begun, NoneOpen, Group, Name, Statement, Pinned, NoPlan, Candidate}
+use Rattle.uses.specs.declared.SheetRefusal.TheVariants.{Length, Unbegun, Begun, NoneOpen, Group, Pinned, Candidate}
 use Rattle.uses.specs.declared.Word.{Word}
 use Rattle.uses.specs.declared.Word.TheVariants.{Open, Certain, Loose}
-use Rattle.uses.specs.Model.{number_of, word_number, State, Fresh, has, is_open, counted, lowest, Call, Reply, begin, settle, settle_by, pin, tell, tally, refused, done, settled, told, tallied}
-use Rattle.uses.specs.Step.{pinned_at, after_pin, Technique, Cause, Sent, Settles, Rest, Effect, Step, over, under, chunk, begin_length, begin_mark, begin_wide, begin_begun, begin_none, settle_length, settle_mark, settle_unbegun, settle_closed, settle_empty, settle_other, by_unbegun, by_closed, by_zero, by_unknown, pin_way, pin_unbegun, pin_outside, pin_again, pin_none, tell_unbegun, tell_outside, tell_other, tally_unbegun, none, some, begins, settles, settlesBy, pins, tells, tallies, sent, taken}
-use Rattle.uses.specs.Law.{AtStop, Between, Lowers, Moment, Kept, Starts, Continues}
+use Rattle.uses.specs.Model.{word_number, State, Fresh, has, is_open, counted, lowest, Call, Reply, settle, tell, told}
+use Rattle.uses.specs.Step.{pinned_at, after_pin, Technique, Cause, Settles, Rest, Step, over, under, chunk, begin_length, begin_begun, settle_empty, settle_other, by_closed, by_zero, pin_unbegun, pin_again, tell_unbegun, tell_outside, tell_other, none, some, begins, settles, settlesBy, pins, tells, tallies, sent, taken}
+use Rattle.uses.specs.Law.{AtStop, Between, Lowers, Kept, Starts, Continues}
 use Rattle.uses.specs.Use.{Event, event, pins_by, candidates_by, begun_by, no_pin, is_pin, is_settling, accepted, Number, Calls, Use, Told, HoldsInAll, FailsInSome, nil, one, not, stop, next, from}
 
 -- numbers and tests

@@ -1,5 +1,5 @@
 -- The state of a sheet, its calls and their answers, as values.
-use Rattle.std.specs.Prelude.{◌≡◌, ℕ, zero, suc, ◌+◌, Bool, true, false, cond, List, ◌==◌, nat_lt}
+use Rattle.std.specs.Prelude.{◌≡◌, ℕ, zero, suc, ◌+◌, Bool, false, cond, List, ◌==◌, nat_lt}
 use Rattle.uses.specs.declared.SheetRefusal.{SheetRefusal}
 use Rattle.uses.specs.declared.SheetRefusal.TheVariants.{Length, Value, Mark, Wide, Unbegun, Begun, NoneOpen, Group, Name, Statement, Pinned, NoPlan, Candidate}
 use Rattle.uses.specs.declared.Word.{Word}

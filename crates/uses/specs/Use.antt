@@ -1,5 +1,5 @@
 -- Uses of a sheet: its calls with their answers from the making on, and what they say of pins, candidates and words.
-use Rattle.std.specs.Prelude.{◌≡◌, ℕ, zero, suc, Bool, true, false, cond, List, [], ◌∷◌, ◌==◌, slice_index}
+use Rattle.std.specs.Prelude.{◌≡◌, ℕ, suc, Bool, true, false, cond, List, [], ◌∷◌, ◌==◌, slice_index}
 use Rattle.source.specs.Plans.{AgreesAt}
 use Rattle.uses.specs.declared.Word.{Word}
 use Rattle.uses.specs.Model.{word_number, State, Fresh, Call, Reply, begin, settle, settle_by, pin, tell, tally, refused, done, settled, told, tallied}

@@ -1,5 +1,5 @@
 use Rattle.source.specs.Plans.{Of}
-use Rattle.std.proofs.Common.{sym, refl, ◌∙◌, arith}
+use Rattle.std.proofs.Common.{refl, ◌∙◌, arith}
 use Rattle.runs.proofs.Running.{sofar-none, sofar-more, ran}
 use Rattle.sheet.specs.View.{Steps}
 use Rattle.runs.proofs.run.run.Goals as goal

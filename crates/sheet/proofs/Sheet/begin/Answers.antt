@@ -1,4 +1,4 @@
-use Rattle.std.proofs.Common.{Ok, Err, sym, refl, subst, arith}
+use Rattle.std.proofs.Common.{Ok, Err, sym, refl, subst}
 use Rattle.checks.specs.Checks.{MayBegin}
 use Rattle.source.specs.Plans.{Of, UpTo}
 use Rattle.table.proofs.Zeros.{zeros_few}
@@ -12,7 +12,7 @@ use Rattle.sheet.proofs.Sheet.begin.Goals as goal
 pub returns-in_err-may_begin : goal.returns-in_err-may_begin
 unfolding Steps
 returns-in_err-may_begin g c =
-    let s = Rows.begin-refused (g.S.Source.wide c.args.self.now.source) (Of (g.S.Source.wide c.args.self.now.source) (g.S.Source.plan c.args.self.now.source)) c.args.self.now.table c.args.candidates.now c.from_residual.result c.in_err-may_begin.field_0.0 (Rows.err_is c.from_residual.result c.in_err-may_begin.field_0.0 c.from_residual.ensures.1) (subst (λ v. MayBegin v c.args.self.now.table c.args.candidates.now (Err c.in_err-may_begin.field_0.0)) c.width.ensures.value c.in_err-may_begin.ensures) in
+    let s = Rows.begin-refused (g.S.Source.wide c.args.self.now.source) (Of (g.S.Source.wide c.args.self.now.source) (g.S.Source.plan c.args.self.now.source)) c.args.self.now.table c.args.candidates.now c.from_residual.result c.in_err-may_begin.field-0.0 (Rows.err_is c.from_residual.result c.in_err-may_begin.field-0.0 c.from_residual.ensures.1) (subst (λ v. MayBegin v c.args.self.now.table c.args.candidates.now (Err c.in_err-may_begin.field-0.0)) c.width.ensures.value c.in_err-may_begin.ensures) in
     record { source = refl; step = s; law = law_continues _ _ _ _ _ _ s }
 
 pub begin_lines-requires : goal.begin_lines-requires

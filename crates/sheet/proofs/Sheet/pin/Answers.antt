@@ -12,7 +12,7 @@ use Rattle.sheet.proofs.Sheet.pin.Goals as goal
 pub returns-in_err-may_pin : goal.returns-in_err-may_pin
 unfolding Steps
 returns-in_err-may_pin g c =
-    let s = Rows.pin-refused (g.S.Source.wide c.args.self.now.source) (Of (g.S.Source.wide c.args.self.now.source) (g.S.Source.plan c.args.self.now.source)) c.args.self.now.table c.args.statement c.args.way c.from_residual.result c.in_err-may_pin.field_0.0 (Rows.err_is c.from_residual.result c.in_err-may_pin.field_0.0 c.from_residual.ensures.1) (subst (λ v. MayPin v c.args.self.now.table c.args.statement c.args.way (Err c.in_err-may_pin.field_0.0)) c.width.ensures.value c.in_err-may_pin.ensures) in
+    let s = Rows.pin-refused (g.S.Source.wide c.args.self.now.source) (Of (g.S.Source.wide c.args.self.now.source) (g.S.Source.plan c.args.self.now.source)) c.args.self.now.table c.args.statement c.args.way c.from_residual.result c.in_err-may_pin.field-0.0 (Rows.err_is c.from_residual.result c.in_err-may_pin.field-0.0 c.from_residual.ensures.1) (subst (λ v. MayPin v c.args.self.now.table c.args.statement c.args.way (Err c.in_err-may_pin.field-0.0)) c.width.ensures.value c.in_err-may_pin.ensures) in
     record { source = refl; step = s; law = law_continues _ _ _ _ _ _ s }
 
 pub pin_lines-requires : goal.pin_lines-requires

@@ -10,7 +10,7 @@ use Rattle.sheet.proofs.Sheet.settle.Goals as goal
 pub returns-in_err-may_settle : goal.returns-in_err-may_settle
 unfolding Steps
 returns-in_err-may_settle g c =
-    let s = Rows.settle-refused (g.S.Source.wide c.args.self.now.source) (Of (g.S.Source.wide c.args.self.now.source) (g.S.Source.plan c.args.self.now.source)) c.args.self.now.table c.args.group.now c.from_residual.result c.in_err-may_settle.field_0.0 (Rows.err_is c.from_residual.result c.in_err-may_settle.field_0.0 c.from_residual.ensures.1) (subst (λ v. MaySettle v c.args.self.now.table c.args.group.now (Err c.in_err-may_settle.field_0.0)) c.width.ensures.value c.in_err-may_settle.ensures) in
+    let s = Rows.settle-refused (g.S.Source.wide c.args.self.now.source) (Of (g.S.Source.wide c.args.self.now.source) (g.S.Source.plan c.args.self.now.source)) c.args.self.now.table c.args.group.now c.from_residual.result c.in_err-may_settle.field-0.0 (Rows.err_is c.from_residual.result c.in_err-may_settle.field-0.0 c.from_residual.ensures.1) (subst (λ v. MaySettle v c.args.self.now.table c.args.group.now (Err c.in_err-may_settle.field-0.0)) c.width.ensures.value c.in_err-may_settle.ensures) in
     record { source = refl; step = s; law = law_continues _ _ _ _ _ _ s }
 
 pub settle_marks-requires : goal.settle_marks-requires

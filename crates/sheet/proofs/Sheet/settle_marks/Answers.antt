@@ -1,6 +1,5 @@
 use Rattle.source.specs.Plans.{Of}
-use Rattle.std.proofs.Common.{refl, arith}
-use Rattle.sheet.proofs.Settling.{Done, all_done}
+use Rattle.sheet.proofs.Settling.{all_done}
 use Rattle.sheet.proofs.Sheet.settle_marks.Goals as goal
 
 pub ceased-requires : goal.ceased-requires

@@ -1,6 +1,6 @@
-use Rattle.std.proofs.Common.{◌≡◌, ℕ, ◌<◌, ◌≤◌, eqb, length, get_or}
+use Rattle.std.proofs.Common.{◌≡◌, ℕ, ◌<◌, ◌≤◌, length, get_or}
 use Rattle.table.specs.Blank.{line_at}
-use Rattle.table.specs.Lineup.{begun_line, settled_line, pinned_line}
+use Rattle.table.specs.Lineup.{begun_line}
 use Rattle.table.proofs.lines.Lines.begin.Given as goal
 
 abbrev pub invariant-loop-i : goal.invariant-loop-i

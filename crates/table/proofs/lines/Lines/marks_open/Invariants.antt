@@ -1,4 +1,4 @@
-use Rattle.std.proofs.Common.{◌≡◌, ℕ, ◌<◌, ◌≤◌, true, false, length, get_or}
+use Rattle.std.proofs.Common.{◌≡◌, ℕ, ◌<◌, true, get_or}
 use Rattle.table.specs.Blank.{line_at}
 use Rattle.table.specs.Lineup.{line_has}
 use Rattle.uses.specs.declared.Word.TheVariants.{Open}

@@ -1,6 +1,5 @@
-use Rattle.std.proofs.Common.{◌≡◌, ℕ, ◌<◌, ◌≤◌, true, false, length, get_or}
+use Rattle.std.proofs.Common.{◌≡◌, ℕ, ◌<◌, ◌≤◌, length, get_or}
 use Rattle.table.specs.Blank.{line_at}
-use Rattle.table.specs.Lineup.{line_has}
 use Rattle.table.proofs.lines.Lines.pins.Given as goal
 
 abbrev pub invariant-loop-i : goal.invariant-loop-i
