@@ -12,8 +12,9 @@ import re
 import sys
 
 WORD = r"[^\W\d][\w'\-]*"
-# Names a line declares: `pub f : ..`, `f g : ..` in a where block or a record, `| c : ..` in a data type.
-DECLARED = re.compile(r"^\s*(?:(?:abbrev|unfoldable|pub|\|)\s+)*(" + WORD + r"(?:\s+" + WORD + r")*)\s+:\s")
+# Names that are declared: `pub f : ..`, `f g : ..` in a where block or a record, `| c : ..` in a data type; the colon may begin the next line.
+DECLARED = re.compile(r"^\s*(?:(?:abbrev|unfoldable|pub|\|)\s+)*(" + WORD + r"(?:\s+" + WORD + r")*)\s+:(?=\s)")
+ALONE = re.compile(r"^\s*(?:(?:abbrev|unfoldable|pub|\|)\s+)*" + WORD + r"\s*$")
 TYPED = re.compile(r"^\s*(?:(?:abbrev|unfoldable|pub)\s+)*(?:record|data)\s+(" + WORD + r")")
 # Rattle's own statements: an answer, an invariant or a measure.
 MADE = re.compile(r":\s*(?:goal|given)\.")
@@ -21,7 +22,8 @@ TOKEN = re.compile(r"(?<![\w'\-])(" + WORD + r")")
 CAMEL = re.compile(r"^[a-z]\w*[A-Z]")
 # A lemma that would fall together with the word it is about.
 LEMMA = {n: n.replace("-", "_") + "_lem" for n in (
-    "all-cancelled", "at-phase", "clauses-ok", "head-of", "in-reduct", "limit-of", "rule-at", "rule-of", "settled-word", "sure-from")}
+    "all-cancelled", "at-phase", "clauses-ok", "head-of", "in-reduct", "limit-of", "rule-at", "rule-of", "settled-word", "settles-by", "sure-from")}
+LEMMA["Rest-from"] = "rest_from"
 # The same where port.py had spelled the lemma already: file, name, new name.
 APART = [
     ("crates/words/proofs/Small.antt", "place_of", "place_of_lem"),
@@ -60,9 +62,13 @@ def declarations(texts):
         if not path.endswith(".antt"):
             continue
         record_at = None
-        for line in text.split("\n"):
+        lines = text.split("\n")
+        for line, after in zip(lines, lines[1:] + [""]):
             if line.strip().startswith("--") or not line.strip():
                 continue
+            if ALONE.match(line) and after.strip().startswith(":"):
+                line = line + " " + after.strip()
+            line += "\n"
             depth = len(line) - len(line.lstrip())
             if record_at is not None and depth <= record_at:
                 record_at = None

@@ -48,10 +48,10 @@ marked_only n k j e =
     (cases_eq j k)
 
 -- a plan that serves shows that the statement is not certain
-pub plan-refutes :
+pub plan_refutes :
     (w : ℕ) (plan : List ℕ → Type 0) (pins group before after : List ℕ) (n k : ℕ)
     → group ≡ only_mark n k → Asked w (Of w plan) pins group before (Ok Plan) after → Told w (Of w plan) pins k (only_mark n k) before (Ok false) after
-plan-refutes w plan pins group before after n k e h =
+plan_refutes w plan pins group before after n k e h =
     let a : Asked w (Of w plan) pins (only_mark n k) before (Ok Plan) after = subst (λ (x : List ℕ). Asked w (Of w plan) pins x before (Ok Plan) after) e h in
     let l : length (only_mark n k) ≡ w = a.0.0.1 in
     let ln : length (only_mark n k) ≡ n = length-set (replicate n 0) k 1 ∙ length-replicate n 0 in
@@ -71,10 +71,10 @@ plan-refutes w plan pins group before after n k e h =
     )
 
 -- where no plan serves, it is
-pub none-shows :
+pub none_shows :
     (w : ℕ) (plan : List ℕ → Type 0) (pins group before after : List ℕ) (n k : ℕ)
     → group ≡ only_mark n k → Asked w (Of w plan) pins group before (Ok Nothing) after → Told w (Of w plan) pins k (only_mark n k) before (Ok true) after
-none-shows w plan pins group before after n k e h =
+none_shows w plan pins group before after n k e h =
     let a : Asked w (Of w plan) pins (only_mark n k) before (Ok Nothing) after = subst (λ (x : List ℕ). Asked w (Of w plan) pins x before (Ok Nothing) after) e h in
     let l : length (only_mark n k) ≡ w = a.0.0.1 in
     let ln : length (only_mark n k) ≡ n = length-set (replicate n 0) k 1 ∙ length-replicate n 0 in (
@@ -90,9 +90,9 @@ none-shows w plan pins group before after n k e h =
     )
 
 -- so the answer of the question tells
-pub question-tells :
+pub question_tells :
     (w : ℕ) (plan : List ℕ → Type 0) (pins group before after : List ℕ) (n k : ℕ) (r : Result Answer Refusal)
     → group ≡ only_mark n k → Asked w (Of w plan) pins group before r after → Told w (Of w plan) pins k (only_mark n k) before (told_by r) after
-question-tells w plan pins group before after n k (Ok Plan) e h = plan-refutes w plan pins group before after n k e h
-question-tells w plan pins group before after n k (Ok Nothing) e h = none-shows w plan pins group before after n k e h
-question-tells w plan pins group before after n k (Err c) e h = subst (λ (x : List ℕ). Asked w (Of w plan) pins x before (Err c) after) e h
+question_tells w plan pins group before after n k (Ok Plan) e h = plan_refutes w plan pins group before after n k e h
+question_tells w plan pins group before after n k (Ok Nothing) e h = none_shows w plan pins group before after n k e h
+question_tells w plan pins group before after n k (Err c) e h = subst (λ (x : List ℕ). Asked w (Of w plan) pins x before (Err c) after) e h

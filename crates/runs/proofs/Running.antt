@@ -18,20 +18,20 @@ use_more
 use_more w plan c r (from f s) x = from f (next s x)
 
 -- one call more
-happened-suc
+happened_suc
     : (cs : List Call) (rs : List Reply) (i : ℕ) (d : Call) (r : Reply) → i < length cs → i < length rs
     → happened (take (suc i) cs) (set rs i r) ≡ happened (take i cs) rs ++ event (call_of (get_or cs i d)) (reply_of r) ∷ []
-happened-suc [] rs i d r a b = absurd (omega arith)
-happened-suc (c ∷ cs) [] i d r a b = absurd (omega arith)
-happened-suc (c ∷ cs) (x ∷ rs) zero d r a b = refl
-happened-suc (c ∷ cs) (x ∷ rs) (suc i) d r a b = ap (λ es. event (call_of c) (reply_of x) ∷ es) (happened-suc cs rs i d r (omega arith) (omega arith))
+happened_suc [] rs i d r a b = absurd (omega arith)
+happened_suc (c ∷ cs) [] i d r a b = absurd (omega arith)
+happened_suc (c ∷ cs) (x ∷ rs) zero d r a b = refl
+happened_suc (c ∷ cs) (x ∷ rs) (suc i) d r a b = ap (λ es. event (call_of c) (reply_of x) ∷ es) (happened_suc cs rs i d r (omega arith) (omega arith))
 
-happened-more
+happened_more
     : (cs : List Call) (rs : List Reply) (i : ℕ) (d : Call) (r : Reply) → i < length cs → i < length rs
     → reverse (happened (take (i + 1) cs) (set rs i r)) ≡ event (call_of (get_or cs i d)) (reply_of r) ∷ reverse (happened (take i cs) rs)
-happened-more cs rs i d r a b =
+happened_more cs rs i d r a b =
     ap (λ n. reverse (happened (take n cs) (set rs i r))) (add-one i)
-    ∙ ap reverse (happened-suc cs rs i d r a b)
+    ∙ ap reverse (happened_suc cs rs i d r a b)
     ∙ reverse-append (happened (take i cs) rs) (event (call_of (get_or cs i d)) (reply_of r) ∷ [])
 
 -- past the replies
@@ -90,24 +90,24 @@ pub record Sofar (w : ℕ) (plan : List ℕ → Type 0) (calls : List Call) (bef
   pub rest : drop i now ≡ drop i before
   pub is_use : Use w plan (reverse (happened (take i calls) now)) m
 
-pub sofar-none
+pub sofar_none
     : {X : Type 0} (wide : X → ℕ) (plan : X → List ℕ → Type 0) (a b : X) (t : Table) (calls : List Call) (rs : List Reply) → b ≡ a → Fresh (view (wide a) t)
     → Sofar (wide b) (plan b) calls rs rs 0 (view (wide b) t)
-sofar-none wide plan a b t calls rs e f =
+sofar_none wide plan a b t calls rs e f =
     record { same = refl; rest = refl; is_use = from (subst (λ y. Fresh (view (wide y) t)) (sym e) f) stop }
 
-pub sofar-more
+pub sofar_more
     : {X : Type 0} (wide : X → ℕ) (plan : X → List ℕ → Type 0) (a b : X) (calls : List Call) (before rs : List Reply) (i : ℕ) (d : Call) (r : Reply) (t u : Table)
     → i < length calls → i < length rs → b ≡ a
     → Sofar (wide a) (plan a) calls before rs i (view (wide a) t)
     → Step (wide b) (plan b) (view (wide b) t) (call_of (get_or calls i d)) (reply_of r) (view (wide b) u)
     → Sofar (wide a) (plan a) calls before (set rs i r) (i + 1) (view (wide a) u)
-sofar-more wide plan a b calls before rs i d r t u l k e o s =
+sofar_more wide plan a b calls before rs i d r t u l k e o s =
     record {
       same = length-set rs i r ∙ o.same;
       rest = drop_more rs before i r o.rest;
       is_use =
-          subst (λ es. Use (wide a) (plan a) es (view (wide a) u)) (sym (happened-more calls rs i d r l k))
+          subst (λ es. Use (wide a) (plan a) es (view (wide a) u)) (sym (happened_more calls rs i d r l k))
           (use_more (wide a) (plan a) (get_or calls i d) r o.is_use
           (subst (λ y. Step (wide y) (plan y) (view (wide y) t) (call_of (get_or calls i d)) (reply_of r) (view (wide y) u)) e s));
     }

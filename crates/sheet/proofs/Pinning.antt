@@ -50,19 +50,19 @@ module _ (w : ℕ) (t : Table) (s way : ℕ) (wide : t.width ≡ w) (inside : s 
       bound false = f
 
   module _ (plan : List ℕ → Type 0) (ps place : List ℕ) (n : ℕ) (same : (k : ℕ) → get_or ps k 0 ≡ pinned_at (view w t).pin s way k) where
-    pub none-agrees
+    pub none_agrees
         : NotFound w plan ps (replicate n 0)
         → (p : List ℕ) → plan p → AgreesAt (pinned_at (view w t).pin s way) p → ⊥
-    none-agrees f p q a = f p q (from_view w ps (pinned_at (view w t).pin s way) same pinned_inside p a, zeros_meet w n p)
+    none_agrees f p q a = f p q (from_view w ps (pinned_at (view w t).pin s way) same pinned_inside p a, zeros_meet w n p)
 
     pub found_agrees : Found w plan ps (replicate n 0) place → AgreesAt (pinned_at (view w t).pin s way) (take w place)
     found_agrees f = to_view w ps (pinned_at (view w t).pin s way) same pinned_inside (take w place) f.1.0
 
-    pub pin-effect
+    pub pin_effect
         : (u : Table) → Found w plan ps (replicate n 0) place → u.begun ≡ t.begun → u.width ≡ t.width
         → ((k : ℕ) → line_at u.lines.rows k ≡ pinned_line (eqb k s) way (line_at t.lines.rows k) (get_or place k 0))
         → Effect w plan (view w t) (pin s way) done (view w u)
-    pin-effect u f b e ls =
+    pin_effect u f b e ls =
         pins (take w place) f.0 (found_agrees f)
         (ap (λ x. cond x (eqb u.width w) false) b ∙ ap (λ x. cond t.begun (eqb x w) false) e)
         (λ k. ap (λ (l : Line). l.candidate) (ls k))

@@ -8,7 +8,7 @@ use Rattle.uses.specs.declared.SheetRefusal.TheVariants.{Length, Value, Mark, Wi
 use Rattle.uses.specs.declared.Word.{Word}
 use Rattle.uses.specs.declared.Word.TheVariants.{Open, Certain, Loose}
 use Rattle.uses.specs.Model.{word_number, number_of, is_open, counted, counted_by, lowest, begin, settle, settle_by, pin, tell, tally, refused, settled, told, tallied}
-use Rattle.uses.specs.Step.{pinned_at, Technique, chunk, Cause, Sent, Settles, Rest, Step, begin_length, begin_mark, begin_wide, begin_begun, begin_none, settle_length, settle_mark, settle_unbegun, settle_closed, settle_empty, settle_other, by_unbegun, by_closed, by_zero, by_unknown, pin_way, pin_unbegun, pin_outside, pin_again, pin_none, tell_unbegun, tell_outside, tell_other, tally_unbegun, settles, settlesBy, tells, tallies, sent, taken}
+use Rattle.uses.specs.Step.{pinned_at, Technique, chunk, Cause, Sent, Settles, Rest, Step, begin_length, begin_mark, begin_wide, begin_begun, begin_none, settle_length, settle_mark, settle_unbegun, settle_closed, settle_empty, settle_other, by_unbegun, by_closed, by_zero, by_unknown, pin_way, pin_unbegun, pin_outside, pin_again, pin_none, tell_unbegun, tell_outside, tell_other, tally_unbegun, settles, settles_by, tells, tallies, sent, taken}
 use Rattle.uses.proofs.Law
 use Rattle.uses.proofs.Law.{bit_one, bit_none, stable_false, has_mark}
 use Rattle.table.specs.declared.line.Line.{Line}
@@ -22,10 +22,10 @@ use Rattle.checks.specs.Checks.{open_in, AllOpen, NotOpen, MayBegin, MaySettle, 
 use Rattle.checks.specs.Named.{Way, limit_of}
 use Rattle.checks.specs.View.{view}
 use Rattle.sheet.specs.View.{done_of, settled_of, told_of, tallied_of}
-use Rattle.sheet.proofs.Settling.{settles-by}
-use Rattle.sheet.proofs.Beginning.{begin-effect}
-use Rattle.sheet.proofs.Pinning.{none-agrees, found_agrees, pin-effect}
-use Rattle.sheet.proofs.Naming.{Limit, marked, zeroed, unknown, limit-tied}
+use Rattle.sheet.proofs.Settling.{settles_by_lem}
+use Rattle.sheet.proofs.Beginning.{begin_effect}
+use Rattle.sheet.proofs.Pinning.{none_agrees, found_agrees, pin_effect}
+use Rattle.sheet.proofs.Naming.{Limit, marked, zeroed, unknown, limit_tied}
 use Rattle.table.proofs.Zeros.{none_serve}
 
 -- a refusal that `?` hands on
@@ -51,24 +51,24 @@ below_14 Candidate = omega arith
 -- begin
 module _ (w : ℕ) (plan : List ℕ → Type 0) (t : Table) (c : List ℕ) where
   -- no row with a number below n applies
-  begin-above
+  begin_above
       : (n : ℕ) → (1 < n → length c ≡ w) → (3 < n → UpTo 1 c) → (4 < n → w ≤ 512) → (6 < n → (view w t).begun ≡ false) → (12 < n → (p : List ℕ) × plan p)
       → (f : SheetRefusal) → number_of f < n → Cause w plan (view w t) (begin c) f → ⊥
-  begin-above n a b d e p _ l (begin_length x) = x (a l)
-  begin-above n a b d e p _ l (begin_mark x) = x (b l)
-  begin-above n a b d e p _ l (begin_wide x) = let h : w ≤ 512 = d l in omega arith
-  begin-above n a b d e p _ l (begin_begun x) = both_ways (view w t).begun (e l) x
-  begin-above n a b d e p _ l (begin_none x) = let h = p l in x h.0 h.1
+  begin_above n a b d e p _ l (begin_length x) = x (a l)
+  begin_above n a b d e p _ l (begin_mark x) = x (b l)
+  begin_above n a b d e p _ l (begin_wide x) = let h : w ≤ 512 = d l in omega arith
+  begin_above n a b d e p _ l (begin_begun x) = both_ways (view w t).begun (e l) x
+  begin_above n a b d e p _ l (begin_none x) = let h = p l in x h.0 h.1
 
   begin_sent : (e : SheetRefusal) → MayBegin w t c (Err e) → Sent w plan (view w t) (begin c) e
   begin_sent Length x =
-      record { cause = begin_length x; first = begin-above 1 (λ h. absurd (omega arith)) (λ h. absurd (omega arith)) (λ h. omega arith) (λ h. absurd (omega arith)) (λ h. absurd (omega arith)) }
+      record { cause = begin_length x; first = begin_above 1 (λ h. absurd (omega arith)) (λ h. absurd (omega arith)) (λ h. omega arith) (λ h. absurd (omega arith)) (λ h. absurd (omega arith)) }
   begin_sent Mark x =
-      record { cause = begin_mark x.1; first = begin-above 3 (λ _. x.0) (λ h. absurd (omega arith)) (λ h. omega arith) (λ h. absurd (omega arith)) (λ h. absurd (omega arith)) }
+      record { cause = begin_mark x.1; first = begin_above 3 (λ _. x.0) (λ h. absurd (omega arith)) (λ h. omega arith) (λ h. absurd (omega arith)) (λ h. absurd (omega arith)) }
   begin_sent Wide x =
-      record { cause = begin_wide x.2; first = begin-above 4 (λ _. x.0) (λ _. x.1) (λ h. omega arith) (λ h. absurd (omega arith)) (λ h. absurd (omega arith)) }
+      record { cause = begin_wide x.2; first = begin_above 4 (λ _. x.0) (λ _. x.1) (λ h. omega arith) (λ h. absurd (omega arith)) (λ h. absurd (omega arith)) }
   begin_sent Begun x =
-      record { cause = begin_begun x.3; first = begin-above 6 (λ _. x.0) (λ _. x.1) (λ _. x.2) (λ h. absurd (omega arith)) (λ h. absurd (omega arith)) }
+      record { cause = begin_begun x.3; first = begin_above 6 (λ _. x.0) (λ _. x.1) (λ _. x.2) (λ h. absurd (omega arith)) (λ h. absurd (omega arith)) }
   begin_sent Value x = absurd x
   begin_sent Unbegun x = absurd x
   begin_sent NoneOpen x = absurd x
@@ -79,26 +79,26 @@ module _ (w : ℕ) (plan : List ℕ → Type 0) (t : Table) (c : List ℕ) where
   begin_sent NoPlan x = absurd x
   begin_sent Candidate x = absurd x
 
-  pub begin-refused
+  pub begin_refused
       : (r : Result (Unit {0}) SheetRefusal) (e : SheetRefusal) → r ≡ Err e → MayBegin w t c (Err e)
       → Step w plan (view w t) (begin c) (done_of r) (view w t)
-  begin-refused r e q x = subst (λ y. Step w plan (view w t) (begin c) (done_of y) (view w t)) (sym q) (sent (begin_sent e x))
+  begin_refused r e q x = subst (λ y. Step w plan (view w t) (begin c) (done_of y) (view w t)) (sym q) (sent (begin_sent e x))
 
-  pub begin-asked
+  pub begin_asked
       : (u : Table) (marks none place : List ℕ) (n : ℕ) (r : Result (Unit {0}) SheetRefusal)
       → MayBegin w t c (Ok tt) → ((k : ℕ) → get_or marks k 0 ≡ get_or c k 0) → none ≡ replicate n 0
       → IfFound (Found w plan none none place) (NotFound w plan none none) (BegunBy w marks place u) t u r
       → Step w plan (view w t) (begin c) (done_of r) (view w u)
-  begin-asked u marks none place n (Ok v) (a, b, d, e) same z (found, changed) =
-      taken (λ f h. begin-above 14 (λ _. a) (λ _. b) (λ _. d) (λ _. e) (λ _. (take w place, found.0)) f (below_14 f) h)
-      (begin-effect w plan c marks place a same (view w t) u found.0 changed.begun changed.width changed.lines)
-  begin-asked u marks none place n (Err f) (a, b, d, e) same z (q, lost, left) =
+  begin_asked u marks none place n (Ok v) (a, b, d, e) same z (found, changed) =
+      taken (λ f h. begin_above 14 (λ _. a) (λ _. b) (λ _. d) (λ _. e) (λ _. (take w place, found.0)) f (below_14 f) h)
+      (begin_effect w plan c marks place a same (view w t) u found.0 changed.begun changed.width changed.lines)
+  begin_asked u marks none place n (Err f) (a, b, d, e) same z (q, lost, left) =
       subst (λ y. Step w plan (view w t) (begin c) (refused y) (view w u)) (sym q)
       (subst (λ y. Step w plan (view w t) (begin c) (refused NoPlan) (view w y)) (sym left)
       (sent
       (record {
         cause = begin_none (λ p o. lost p o (none_serve w none n z p));
-        first = begin-above 12 (λ _. a) (λ _. b) (λ _. d) (λ _. e) (λ h. absurd (omega arith));
+        first = begin_above 12 (λ _. a) (λ _. b) (λ _. d) (λ _. e) (λ h. absurd (omega arith));
       })))
 
 -- how many are open
@@ -127,16 +127,16 @@ bit_eqb false = refl
 
 -- settle
 module _ (w : ℕ) (plan : List ℕ → Type 0) (t : Table) (g : List ℕ) where
-  settle-above
+  settle_above
       : (n : ℕ) → (1 < n → length g ≡ w) → (3 < n → UpTo 1 g) → (5 < n → (view w t).begun ≡ true) → (7 < n → open_in w t ≡ 0 → ⊥)
       → (8 < n → Marks g × AllOpen w t g)
       → (f : SheetRefusal) → number_of f < n → Cause w plan (view w t) (settle g) f → ⊥
-  settle-above n a b c d e _ l (settle_length x) = x (a l)
-  settle-above n a b c d e _ l (settle_mark x) = x (b l)
-  settle-above n a b c d e _ l (settle_unbegun x) = both_ways (view w t).begun x (c l)
-  settle-above n a b c d e _ l (settle_closed x) = d l (none_counted (is_open (view w t)) t.width x)
-  settle-above n a b c d e _ l (settle_empty x) = let h = (e l).0 in x h.0 h.1
-  settle-above n a b c d e _ l (settle_other k x y) = both_ways (is_open (view w t) k) y ((e l).1 k x)
+  settle_above n a b c d e _ l (settle_length x) = x (a l)
+  settle_above n a b c d e _ l (settle_mark x) = x (b l)
+  settle_above n a b c d e _ l (settle_unbegun x) = both_ways (view w t).begun x (c l)
+  settle_above n a b c d e _ l (settle_closed x) = d l (none_counted (is_open (view w t)) t.width x)
+  settle_above n a b c d e _ l (settle_empty x) = let h = (e l).0 in x h.0 h.1
+  settle_above n a b c d e _ l (settle_other k x y) = both_ways (is_open (view w t) k) y ((e l).1 k x)
 
   settle_8 : (Marks g → ⊥) ⊎ NotOpen w t g → Cause w plan (view w t) (settle g) Group
   settle_8 (inl x) = settle_empty (λ k e. x (k, e))
@@ -144,15 +144,15 @@ module _ (w : ℕ) (plan : List ℕ → Type 0) (t : Table) (g : List ℕ) where
 
   settle_sent : (e : SheetRefusal) → MaySettle w t g (Err e) → Sent w plan (view w t) (settle g) e
   settle_sent Length x =
-      record { cause = settle_length x; first = settle-above 1 (λ h. absurd (omega arith)) (λ h. absurd (omega arith)) (λ h. absurd (omega arith)) (λ h. absurd (omega arith)) (λ h. absurd (omega arith)) }
+      record { cause = settle_length x; first = settle_above 1 (λ h. absurd (omega arith)) (λ h. absurd (omega arith)) (λ h. absurd (omega arith)) (λ h. absurd (omega arith)) (λ h. absurd (omega arith)) }
   settle_sent Mark x =
-      record { cause = settle_mark x.1; first = settle-above 3 (λ _. x.0) (λ h. absurd (omega arith)) (λ h. absurd (omega arith)) (λ h. absurd (omega arith)) (λ h. absurd (omega arith)) }
+      record { cause = settle_mark x.1; first = settle_above 3 (λ _. x.0) (λ h. absurd (omega arith)) (λ h. absurd (omega arith)) (λ h. absurd (omega arith)) (λ h. absurd (omega arith)) }
   settle_sent Unbegun x =
-      record { cause = settle_unbegun x.2; first = settle-above 5 (λ _. x.0) (λ _. x.1) (λ h. absurd (omega arith)) (λ h. absurd (omega arith)) (λ h. absurd (omega arith)) }
+      record { cause = settle_unbegun x.2; first = settle_above 5 (λ _. x.0) (λ _. x.1) (λ h. absurd (omega arith)) (λ h. absurd (omega arith)) (λ h. absurd (omega arith)) }
   settle_sent NoneOpen x =
-      record { cause = settle_closed (none_open w t x.3); first = settle-above 7 (λ _. x.0) (λ _. x.1) (λ _. x.2) (λ h. absurd (omega arith)) (λ h. absurd (omega arith)) }
+      record { cause = settle_closed (none_open w t x.3); first = settle_above 7 (λ _. x.0) (λ _. x.1) (λ _. x.2) (λ h. absurd (omega arith)) (λ h. absurd (omega arith)) }
   settle_sent Group x =
-      record { cause = settle_8 x.4; first = settle-above 8 (λ _. x.0) (λ _. x.1) (λ _. x.2) (λ _. x.3) (λ h. absurd (omega arith)) }
+      record { cause = settle_8 x.4; first = settle_above 8 (λ _. x.0) (λ _. x.1) (λ _. x.2) (λ _. x.3) (λ h. absurd (omega arith)) }
   settle_sent Value x = absurd x
   settle_sent Wide x = absurd x
   settle_sent Begun x = absurd x
@@ -162,80 +162,80 @@ module _ (w : ℕ) (plan : List ℕ → Type 0) (t : Table) (g : List ℕ) where
   settle_sent NoPlan x = absurd x
   settle_sent Candidate x = absurd x
 
-  pub settle-refused
+  pub settle_refused
       : (r : Result ℕ SheetRefusal) (e : SheetRefusal) → r ≡ Err e → MaySettle w t g (Err e)
       → Step w plan (view w t) (settle g) (settled_of r) (view w t)
-  settle-refused r e q x = subst (λ y. Step w plan (view w t) (settle g) (settled_of y) (view w t)) (sym q) (sent (settle_sent e x))
+  settle_refused r e q x = subst (λ y. Step w plan (view w t) (settle g) (settled_of y) (view w t)) (sym q) (sent (settle_sent e x))
 
-  pub settle-done
+  pub settle_done
       : (u : Table) (marks : List ℕ) (r : ℕ) → MaySettle w t g (Ok tt)
       → ((k : ℕ) → get_or marks k 0 ≡ get_or g k 0)
       → Settles w plan (view w t) (λ k. eqb (get_or marks k 0) 1) (view w u) → Rest w plan (view w t) (view w u)
       → r + counted (view w u) Open w ≡ counted (view w t) Open w
       → Step w plan (view w t) (settle g) (settled r) (view w u)
-  settle-done u marks r (a, b, c, d, e, o) ms s x n =
-      taken (λ f h. settle-above 14 (λ _. a) (λ _. b) (λ _. c) (λ _. d) (λ _. (e, o)) f (below_14 f) h)
-      (settles (settles-by w plan (view w t) (view w u) (λ k. eqb (get_or marks k 0) 1) (λ k. eqb (get_or g k 0) 1) (λ k. ap (λ y. eqb y 1) (ms k)) s) x n)
+  settle_done u marks r (a, b, c, d, e, o) ms s x n =
+      taken (λ f h. settle_above 14 (λ _. a) (λ _. b) (λ _. c) (λ _. d) (λ _. (e, o)) f (below_14 f) h)
+      (settles (settles_by_lem w plan (view w t) (view w u) (λ k. eqb (get_or marks k 0) 1) (λ k. eqb (get_or g k 0) 1) (λ k. ap (λ y. eqb y 1) (ms k)) s) x n)
 
 -- settle by name
 module _ (w : ℕ) (plan : List ℕ → Type 0) (t : Table) (name : List ℕ) (size : ℕ) where
-  by-above
+  by_above
       : (n : ℕ) → (5 < n → (view w t).begun ≡ true) → (7 < n → open_in w t ≡ 0 → ⊥)
       → (8 < n → name ≡ codes "chunk" → size ≡ 0 → ⊥) → (9 < n → (l : ℕ) × Technique name size w l)
       → (f : SheetRefusal) → number_of f < n → Cause w plan (view w t) (settle_by name size) f → ⊥
-  by-above n a b c d _ l (by_unbegun x) = both_ways (view w t).begun x (a l)
-  by-above n a b c d _ l (by_closed x) = b l (none_counted (is_open (view w t)) t.width x)
-  by-above n a b c d _ l (by_zero x y) = c l x y
-  by-above n a b c d _ l (by_unknown x) = let h = d l in x h.0 h.1
+  by_above n a b c d _ l (by_unbegun x) = both_ways (view w t).begun x (a l)
+  by_above n a b c d _ l (by_closed x) = b l (none_counted (is_open (view w t)) t.width x)
+  by_above n a b c d _ l (by_zero x y) = c l x y
+  by_above n a b c d _ l (by_unknown x) = let h = d l in x h.0 h.1
 
-  by-limit
+  by_limit
       : (e : SheetRefusal) → (view w t).begun ≡ true → (open_in w t ≡ 0 → ⊥) → Limit name size w (Err e) → Sent w plan (view w t) (settle_by name size) e
-  by-limit _ a b (zeroed x y) = record { cause = by_zero x y; first = by-above 8 (λ _. a) (λ _. b) (λ h. absurd (omega arith)) (λ h. absurd (omega arith)) }
-  by-limit _ a b (unknown x) =
-      record { cause = by_unknown x; first = by-above 9 (λ _. a) (λ _. b) (λ _ h z. x size (subst (λ n. Technique n size w size) (sym h) chunk)) (λ h. absurd (omega arith)) }
+  by_limit _ a b (zeroed x y) = record { cause = by_zero x y; first = by_above 8 (λ _. a) (λ _. b) (λ h. absurd (omega arith)) (λ h. absurd (omega arith)) }
+  by_limit _ a b (unknown x) =
+      record { cause = by_unknown x; first = by_above 9 (λ _. a) (λ _. b) (λ _ h z. x size (subst (λ n. Technique n size w size) (sym h) chunk)) (λ h. absurd (omega arith)) }
 
-  by-rest
+  by_rest
       : (e : SheetRefusal) → ((view w t).begun ≡ true) × (open_in w t ≡ 0 → ⊥) × (Err e ≡ limit_of name size t.width)
       → Sent w plan (view w t) (settle_by name size) e
-  by-rest e (a, b, x) = by-limit e a b (limit-tied w t name size (Err e) a x)
+  by_rest e (a, b, x) = by_limit e a b (limit_tied w t name size (Err e) a x)
 
   by_sent : (e : SheetRefusal) → MaySettleBy w t name size (Err e) → Sent w plan (view w t) (settle_by name size) e
   by_sent Unbegun x =
-      record { cause = by_unbegun x; first = by-above 5 (λ h. absurd (omega arith)) (λ h. absurd (omega arith)) (λ h. absurd (omega arith)) (λ h. absurd (omega arith)) }
+      record { cause = by_unbegun x; first = by_above 5 (λ h. absurd (omega arith)) (λ h. absurd (omega arith)) (λ h. absurd (omega arith)) (λ h. absurd (omega arith)) }
   by_sent NoneOpen x =
-      record { cause = by_closed (none_open w t x.1); first = by-above 7 (λ _. x.0) (λ h. absurd (omega arith)) (λ h. absurd (omega arith)) (λ h. absurd (omega arith)) }
-  by_sent Length x = by-rest Length x
-  by_sent Value x = by-rest Value x
-  by_sent Mark x = by-rest Mark x
-  by_sent Wide x = by-rest Wide x
-  by_sent Begun x = by-rest Begun x
-  by_sent Group x = by-rest Group x
-  by_sent Name x = by-rest Name x
-  by_sent Statement x = by-rest Statement x
-  by_sent Pinned x = by-rest Pinned x
-  by_sent NoPlan x = by-rest NoPlan x
-  by_sent Candidate x = by-rest Candidate x
+      record { cause = by_closed (none_open w t x.1); first = by_above 7 (λ _. x.0) (λ h. absurd (omega arith)) (λ h. absurd (omega arith)) (λ h. absurd (omega arith)) }
+  by_sent Length x = by_rest Length x
+  by_sent Value x = by_rest Value x
+  by_sent Mark x = by_rest Mark x
+  by_sent Wide x = by_rest Wide x
+  by_sent Begun x = by_rest Begun x
+  by_sent Group x = by_rest Group x
+  by_sent Name x = by_rest Name x
+  by_sent Statement x = by_rest Statement x
+  by_sent Pinned x = by_rest Pinned x
+  by_sent NoPlan x = by_rest NoPlan x
+  by_sent Candidate x = by_rest Candidate x
 
-  pub by-refused
+  pub by_refused
       : (r : Result ℕ SheetRefusal) (e : SheetRefusal) → r ≡ Err e → MaySettleBy w t name size (Err e)
       → Step w plan (view w t) (settle_by name size) (settled_of r) (view w t)
-  by-refused r e q x = subst (λ y. Step w plan (view w t) (settle_by name size) (settled_of y) (view w t)) (sym q) (sent (by_sent e x))
+  by_refused r e q x = subst (λ y. Step w plan (view w t) (settle_by name size) (settled_of y) (view w t)) (sym q) (sent (by_sent e x))
 
   module _ (l : ℕ) (may : MaySettleBy w t name size (Ok l)) (ms : List ℕ) (lows : (k : ℕ) → get_or ms k 0 ≡ cond (lowest_of t.lines.rows l k) 1 0) where
     limit : Limit name size w (Ok l)
-    limit = limit-tied w t name size (Ok l) may.0 may.2
+    limit = limit_tied w t name size (Ok l) may.0 may.2
 
-    pub by-done
+    pub by_done
         : (u : Table) (r : ℕ)
         → Settles w plan (view w t) (λ k. eqb (get_or ms k 0) 1) (view w u) → Rest w plan (view w t) (view w u)
         → r + counted (view w u) Open w ≡ counted (view w t) Open w
         → Step w plan (view w t) (settle_by name size) (settled r) (view w u)
-    by-done u r s q n = go limit
+    by_done u r s q n = go limit
       where
         go : Limit name size w (Ok l) → Step w plan (view w t) (settle_by name size) (settled r) (view w u)
         go (marked x y) =
-            taken (λ f h. by-above 14 (λ _. may.0) (λ _. may.1) (λ _. y) (λ _. (l, x)) f (below_14 f) h)
-            (settlesBy l x (settles-by w plan (view w t) (view w u) (λ k. eqb (get_or ms k 0) 1) (lowest (view w t) l) (λ k. ap (λ z. eqb z 1) (lows k) ∙ bit_eqb (lowest_of t.lines.rows l k)) s) q n)
+            taken (λ f h. by_above 14 (λ _. may.0) (λ _. may.1) (λ _. y) (λ _. (l, x)) f (below_14 f) h)
+            (settles_by l x (settles_by_lem w plan (view w t) (view w u) (λ k. eqb (get_or ms k 0) 1) (lowest (view w t) l) (λ k. ap (λ z. eqb z 1) (lows k) ∙ bit_eqb (lowest_of t.lines.rows l k)) s) q n)
 
     -- some line is marked
     pub by_some : (k : ℕ) × (get_or ms k 0 ≡ 1) × (k < w)
@@ -262,15 +262,15 @@ lowest_few rows l ms e k h = subst (λ x. x ≤ 1) (sym (e k)) (bit (lowest_of r
 
 -- pin
 module _ (w : ℕ) (plan : List ℕ → Type 0) (t : Table) (s way : ℕ) where
-  pin-above
+  pin_above
       : (n : ℕ) → (2 < n → Way way) → (5 < n → (view w t).begun ≡ true) → (10 < n → s < w) → (11 < n → (view w t).pin s ≡ 0)
       → (12 < n → (p : List ℕ) × plan p × AgreesAt (pinned_at (view w t).pin s way) p)
       → (f : SheetRefusal) → number_of f < n → Cause w plan (view w t) (pin s way) f → ⊥
-  pin-above n a b c d e _ l (pin_way x y) = ⊎_elim x y (a l)
-  pin-above n a b c d e _ l (pin_unbegun x) = both_ways (view w t).begun x (b l)
-  pin-above n a b c d e _ l (pin_outside x) = let h : s < w = c l in omega arith
-  pin-above n a b c d e _ l (pin_again x) = x (d l)
-  pin-above n a b c d e _ l (pin_none x) = let h = e l in x h.0 h.1 h.2
+  pin_above n a b c d e _ l (pin_way x y) = ⊎_elim x y (a l)
+  pin_above n a b c d e _ l (pin_unbegun x) = both_ways (view w t).begun x (b l)
+  pin_above n a b c d e _ l (pin_outside x) = let h : s < w = c l in omega arith
+  pin_above n a b c d e _ l (pin_again x) = x (d l)
+  pin_above n a b c d e _ l (pin_none x) = let h = e l in x h.0 h.1 h.2
 
   width : (view w t).begun ≡ true → t.width ≡ w
   width b = tied t.begun t.width w b
@@ -280,16 +280,16 @@ module _ (w : ℕ) (plan : List ℕ → Type 0) (t : Table) (s way : ℕ) where
 
   pin_sent : (e : SheetRefusal) → MayPin w t s way (Err e) → Sent w plan (view w t) (pin s way) e
   pin_sent Value x =
-      record { cause = pin_way (λ e. x (inl e)) (λ e. x (inr e)); first = pin-above 2 (λ h. absurd (omega arith)) (λ h. absurd (omega arith)) (λ h. absurd (omega arith)) (λ h. absurd (omega arith)) (λ h. absurd (omega arith)) }
+      record { cause = pin_way (λ e. x (inl e)) (λ e. x (inr e)); first = pin_above 2 (λ h. absurd (omega arith)) (λ h. absurd (omega arith)) (λ h. absurd (omega arith)) (λ h. absurd (omega arith)) (λ h. absurd (omega arith)) }
   pin_sent Unbegun x =
-      record { cause = pin_unbegun x.1; first = pin-above 5 (λ _. x.0) (λ h. absurd (omega arith)) (λ h. absurd (omega arith)) (λ h. absurd (omega arith)) (λ h. absurd (omega arith)) }
+      record { cause = pin_unbegun x.1; first = pin_above 5 (λ _. x.0) (λ h. absurd (omega arith)) (λ h. absurd (omega arith)) (λ h. absurd (omega arith)) (λ h. absurd (omega arith)) }
   pin_sent Statement x =
       record {
         cause = pin_outside (let e = width x.1 in let l : t.width ≤ s = x.2 in omega arith);
-        first = pin-above 10 (λ _. x.0) (λ _. x.1) (λ h. absurd (omega arith)) (λ h. absurd (omega arith)) (λ h. absurd (omega arith));
+        first = pin_above 10 (λ _. x.0) (λ _. x.1) (λ h. absurd (omega arith)) (λ h. absurd (omega arith)) (λ h. absurd (omega arith));
       }
   pin_sent Pinned x =
-      record { cause = pin_again x.3; first = pin-above 11 (λ _. x.0) (λ _. x.1) (λ _. inside x.1 x.2) (λ h. absurd (omega arith)) (λ h. absurd (omega arith)) }
+      record { cause = pin_again x.3; first = pin_above 11 (λ _. x.0) (λ _. x.1) (λ _. inside x.1 x.2) (λ h. absurd (omega arith)) (λ h. absurd (omega arith)) }
   pin_sent Length x = absurd x
   pin_sent Mark x = absurd x
   pin_sent Wide x = absurd x
@@ -300,51 +300,51 @@ module _ (w : ℕ) (plan : List ℕ → Type 0) (t : Table) (s way : ℕ) where
   pin_sent NoPlan x = absurd x
   pin_sent Candidate x = absurd x
 
-  pub pin-refused
+  pub pin_refused
       : (r : Result (Unit {0}) SheetRefusal) (e : SheetRefusal) → r ≡ Err e → MayPin w t s way (Err e)
       → Step w plan (view w t) (pin s way) (done_of r) (view w t)
-  pin-refused r e q x = subst (λ y. Step w plan (view w t) (pin s way) (done_of y) (view w t)) (sym q) (sent (pin_sent e x))
+  pin_refused r e q x = subst (λ y. Step w plan (view w t) (pin s way) (done_of y) (view w t)) (sym q) (sent (pin_sent e x))
 
-  pub pin-asked
+  pub pin_asked
       : (u : Table) (ps none place : List ℕ) (n : ℕ) (r : Result (Unit {0}) SheetRefusal)
       → MayPin w t s way (Ok tt) → ((k : ℕ) → get_or ps k 0 ≡ pinned_at (λ j. (line_at t.lines.rows j).pin) s way k) → none ≡ replicate n 0
       → IfFound (Found w plan ps none place) (NotFound w plan ps none) (PinnedBy t s way place u) t u r
       → Step w plan (view w t) (pin s way) (done_of r) (view w u)
-  pin-asked u ps none place n (Ok v) (a, b, h, z) same q (found, changed) =
-      taken (λ f y. pin-above 14 (λ _. a) (λ _. b) (λ _. inside b h) (λ _. z) (λ _. (take w place, found.0, found_agrees w t s way (width b) h plan ps place n same found')) f (below_14 f) y)
-      (pin-effect w t s way (width b) h plan ps place n same u found' changed.begun changed.width changed.lines)
+  pin_asked u ps none place n (Ok v) (a, b, h, z) same q (found, changed) =
+      taken (λ f y. pin_above 14 (λ _. a) (λ _. b) (λ _. inside b h) (λ _. z) (λ _. (take w place, found.0, found_agrees w t s way (width b) h plan ps place n same found')) f (below_14 f) y)
+      (pin_effect w t s way (width b) h plan ps place n same u found' changed.begun changed.width changed.lines)
     where
       found' : Found w plan ps (replicate n 0) place
       found' = subst (λ xs. Found w plan ps xs place) q found
-  pin-asked u ps none place n (Err f) (a, b, h, z) same q (e, lost, left) =
+  pin_asked u ps none place n (Err f) (a, b, h, z) same q (e, lost, left) =
       subst (λ y. Step w plan (view w t) (pin s way) (refused y) (view w u)) (sym e)
       (subst (λ y. Step w plan (view w t) (pin s way) (refused NoPlan) (view w y)) (sym left)
       (sent
       (record {
-        cause = pin_none (none-agrees w t s way (width b) h plan ps [] n same (subst (λ xs. NotFound w plan ps xs) q lost));
-        first = pin-above 12 (λ _. a) (λ _. b) (λ _. inside b h) (λ _. z) (λ h. absurd (omega arith));
+        cause = pin_none (none_agrees w t s way (width b) h plan ps [] n same (subst (λ xs. NotFound w plan ps xs) q lost));
+        first = pin_above 12 (λ _. a) (λ _. b) (λ _. inside b h) (λ _. z) (λ h. absurd (omega arith));
       })))
 
 -- tell
 module _ (w : ℕ) (plan : List ℕ → Type 0) (t : Table) (s : ℕ) where
-  tell-above
+  tell_above
       : (n : ℕ) → (5 < n → (view w t).begun ≡ true) → (10 < n → s < w) → (13 < n → (view w t).mark s ≡ true)
       → (f : SheetRefusal) → number_of f < n → Cause w plan (view w t) (tell s) f → ⊥
-  tell-above n a b c _ l (tell_unbegun x) = both_ways (view w t).begun x (a l)
-  tell-above n a b c _ l (tell_outside x) = let h : s < w = b l in omega arith
-  tell-above n a b c _ l (tell_other x) = both_ways ((view w t).mark s) x (c l)
+  tell_above n a b c _ l (tell_unbegun x) = both_ways (view w t).begun x (a l)
+  tell_above n a b c _ l (tell_outside x) = let h : s < w = b l in omega arith
+  tell_above n a b c _ l (tell_other x) = both_ways ((view w t).mark s) x (c l)
 
   below : (view w t).begun ≡ true → s < t.width → s < w
   below b h = let e = tied t.begun t.width w b in omega arith
 
   tell_sent : (e : SheetRefusal) → MayTell w t s (Err e) → Sent w plan (view w t) (tell s) e
-  tell_sent Unbegun x = record { cause = tell_unbegun x; first = tell-above 5 (λ h. absurd (omega arith)) (λ h. absurd (omega arith)) (λ h. absurd (omega arith)) }
+  tell_sent Unbegun x = record { cause = tell_unbegun x; first = tell_above 5 (λ h. absurd (omega arith)) (λ h. absurd (omega arith)) (λ h. absurd (omega arith)) }
   tell_sent Statement x =
       record {
         cause = tell_outside (let e = tied t.begun t.width w x.0 in let l : t.width ≤ s = x.1 in omega arith);
-        first = tell-above 10 (λ _. x.0) (λ h. absurd (omega arith)) (λ h. absurd (omega arith));
+        first = tell_above 10 (λ _. x.0) (λ h. absurd (omega arith)) (λ h. absurd (omega arith));
       }
-  tell_sent Candidate x = record { cause = tell_other x.2; first = tell-above 13 (λ _. x.0) (λ _. below x.0 x.1) (λ h. absurd (omega arith)) }
+  tell_sent Candidate x = record { cause = tell_other x.2; first = tell_above 13 (λ _. x.0) (λ _. below x.0 x.1) (λ h. absurd (omega arith)) }
   tell_sent Length x = absurd x
   tell_sent Value x = absurd x
   tell_sent Mark x = absurd x
@@ -359,17 +359,17 @@ module _ (w : ℕ) (plan : List ℕ → Type 0) (t : Table) (s : ℕ) where
   pub tell_step : (r : Result Word SheetRefusal) → MayTell w t s r → Step w plan (view w t) (tell s) (told_of r) (view w t)
   tell_step (Ok v) (b, h, c, e) =
       subst (λ y. Step w plan (view w t) (tell s) (told (word_number y)) (view w t)) (sym e)
-      (taken (λ f x. tell-above 14 (λ _. b) (λ _. below b h) (λ _. c) f (below_14 f) x) tells)
+      (taken (λ f x. tell_above 14 (λ _. b) (λ _. below b h) (λ _. c) f (below_14 f) x) tells)
   tell_step (Err e) x = sent (tell_sent e x)
 
 -- tally
 module _ (w : ℕ) (plan : List ℕ → Type 0) (t : Table) where
-  tally-above
+  tally_above
       : (n : ℕ) → (5 < n → (view w t).begun ≡ true) → (f : SheetRefusal) → number_of f < n → Cause w plan (view w t) tally f → ⊥
-  tally-above n a _ l (tally_unbegun x) = both_ways (view w t).begun x (a l)
+  tally_above n a _ l (tally_unbegun x) = both_ways (view w t).begun x (a l)
 
   tally_sent : (e : SheetRefusal) → MayTally w t (Err e) → Sent w plan (view w t) tally e
-  tally_sent Unbegun x = record { cause = tally_unbegun x; first = tally-above 5 (λ h. absurd (omega arith)) }
+  tally_sent Unbegun x = record { cause = tally_unbegun x; first = tally_above 5 (λ h. absurd (omega arith)) }
   tally_sent Length x = absurd x
   tally_sent Value x = absurd x
   tally_sent Mark x = absurd x
@@ -390,7 +390,7 @@ module _ (w : ℕ) (plan : List ℕ → Type 0) (t : Table) where
       subst (λ z. Step w plan (view w t) tally (tallied a b z) (view w t)) (sym g)
       (subst (λ y. Step w plan (view w t) tally (tallied a y (counted (view w t) Loose w)) (view w t)) (sym f)
       (subst (λ x. Step w plan (view w t) tally (tallied x (counted (view w t) Certain w) (counted (view w t) Loose w)) (view w t)) (sym e)
-      (taken (λ f x. tally-above 14 (λ _. h) f (below_14 f) x) tallies)))
+      (taken (λ f x. tally_above 14 (λ _. h) f (below_14 f) x) tallies)))
 
   pub tally_step : (r : Result Tally SheetRefusal) → MayTally w t r → Step w plan (view w t) tally (tallied_of r) (view w t)
   tally_step (Ok n) (b, o, c, l) =

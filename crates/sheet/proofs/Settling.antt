@@ -54,13 +54,13 @@ module _ (w : ℕ) (plan : List ℕ → Type 0) (whole : (p : List ℕ) → plan
   closed_outside : (k : ℕ) → w ≤ k → is_open (view w t) k ≡ false
   closed_outside k h = ap (λ b. cond b (eqb (word_number (line_at t.lines.rows k).word) 0) false) (t.unmarked k (omega arith))
 
-  pub settles-from
+  pub settles_from
       : (found : Bool) → MatchBool found (Found w plan pins marks place) (NotFound w plan pins marks)
       → ((k : ℕ) × (get_or marks k 0 ≡ 1) × (k < w))
       → ((k : ℕ) → line_at u.lines.rows k ≡ settled_line found (line_at t.lines.rows k) (get_or place k 0) (get_or marks k 0))
       → Settles w plan (view w t) (λ k. eqb (get_or marks k 0) 1) (view w u)
   unfolding settled_line
-  settles-from true (q, (a, m)) s ls =
+  settles_from true (q, (a, m)) s ls =
       some (take w place) q (to_view w pins (view w t).pin ps (pin_inside w t wide) (take w place) a) j.0
       (eq-eqb (get_or marks j.0 0) 1 (sym (get_or-take w marks j.0 0 in') ∙ j.1)) j.2 word
     where
@@ -84,7 +84,7 @@ module _ (w : ℕ) (plan : List ℕ → Type 0) (whole : (p : List ℕ) → plan
           (sym (get_or-take w place k 0 h)))
           (λ (h : w ≤ k). rw (closed_outside k h) refl)
           (cases_lt k w)
-  settles-from false f s ls =
+  settles_from false f s ls =
       none
       (λ p q a k g e.
       f p q (
@@ -98,12 +98,12 @@ module _ (w : ℕ) (plan : List ℕ → Type 0) (whole : (p : List ℕ) → plan
           let l : length p ≡ w = (whole p q).0 in
           ⊎_elim (λ (x : k < w). x) (λ (x : w ≤ k). let z = get_or_past p k 0 (omega arith) in absurd (omega arith)) (cases_lt k w)
 
-  pub Rest-from
+  pub rest_from
       : (found : Bool) → u.begun ≡ t.begun → u.width ≡ t.width
       → ((k : ℕ) → line_at u.lines.rows k ≡ settled_line found (line_at t.lines.rows k) (get_or place k 0) (get_or marks k 0))
       → Rest w plan (view w t) (view w u)
   unfolding settled_line
-  Rest-from found b e ls =
+  rest_from found b e ls =
       record {
         begun = ap (λ x. cond x (eqb u.width w) false) b ∙ ap (λ x. cond t.begun (eqb x w) false) e;
         mark = λ k. ap (λ (l : Line). l.candidate) (ls k);
@@ -114,7 +114,7 @@ module _ (w : ℕ) (plan : List ℕ → Type 0) (whole : (p : List ℕ) → plan
 pub fewer
     : (w : ℕ) (plan : List ℕ → Type 0) (whole : (p : List ℕ) → plan p → Whole w p) {m n : State} (g : ℕ → Bool)
     → Rest w plan m n → Settles w plan m g n → counted n Open w ≤ counted m Open w
-fewer w plan whole {m} {n} g r s = Law.counted_le m n (Law.settle-shrinks w plan whole g r s) w
+fewer w plan whole {m} {n} g r s = Law.counted_le m n (Law.settle_shrinks w plan whole g r s) w
 
 -- all that a settling does, over the tables before and after
 pub record Done (w : ℕ) (plan : List ℕ → Type 0) (t u : Table) (marks : List ℕ) (before after : ℕ) : Type 0 where
@@ -142,10 +142,10 @@ all_done w plan whole t u pins marks place before after found b s n ps f ls ub u
     e = tied t.begun t.width w b
 
     r : Rest w plan (view w t) (view w u)
-    r = Rest-from w plan whole t u pins marks place e ps found ub uw ls
+    r = rest_from w plan whole t u pins marks place e ps found ub uw ls
 
     x : Settles w plan (view w t) (λ k. eqb (get_or marks k 0) 1) (view w u)
-    x = settles-from w plan whole t u pins marks place e ps found f s ls
+    x = settles_from w plan whole t u pins marks place e ps found f s ls
 
     l : counted (view w u) Open w ≤ counted (view w t) Open w
     l = fewer w plan whole (λ k. eqb (get_or marks k 0) 1) r x
@@ -157,11 +157,11 @@ all_done w plan whole t u pins marks place before after found b s n ps f ls ub u
     a' = a ∙ ap (counted (view w u) Open) (uw ∙ e)
 
 -- another way to write the same group
-pub settles-by
+pub settles_by_lem
     : (w : ℕ) (plan : List ℕ → Type 0) (m n : State) (f g : ℕ → Bool) → ((k : ℕ) → f k ≡ g k) → Settles w plan m f n → Settles w plan m g n
-settles-by w plan m n f g e (none x y) =
+settles_by_lem w plan m n f g e (none x y) =
     none (λ p q a k h. x p q a k (e k ∙ h)) (λ k. y k ∙ ap (λ b. cond b 1 (m.word k)) (e k))
-settles-by w plan m n f g e (some p q a k h i y) = some p q a k (sym (e k) ∙ h) i y
+settles_by_lem w plan m n f g e (some p q a k h i y) = some p q a k (sym (e k) ∙ h) i y
 
 -- a group in a longer table
 pub widened_few : (b : ℕ) (g ms : List ℕ) → UpTo b g → ((k : ℕ) → get_or ms k 0 ≡ get_or g k 0) → UpTo b ms
@@ -171,10 +171,10 @@ widened_few b g ms u e k h =
     (λ (l : length g ≤ k). let z = get_or_past g k 0 l in let y = e k in omega arith)
     (cases_lt k (length g))
 
-pub widened-some
+pub widened_some
     : (w : ℕ) (g ms : List ℕ) → length g ≡ w → ((k : ℕ) → get_or ms k 0 ≡ get_or g k 0) → ((k : ℕ) × (get_or g k 0 ≡ 1))
     → (k : ℕ) × (get_or ms k 0 ≡ 1) × (k < w)
-widened-some w g ms l e s = (
+widened_some w g ms l e s = (
   s.0,
   e s.0 ∙ s.1,
   ⊎_elim

@@ -108,10 +108,10 @@ blank_meets g p z m = absurd (blank_no_marks g z m)
 
 -- the plans found for the two halves are a joining that serves, where the first half meets its part of the group and that
 -- part marks a statement, or the second part marks none
-pub first-part-serves :
+pub first_part_serves :
     (a : ℕ) (first : List ℕ → Type 0) (b : ℕ) (second : List ℕ → Type 0) (pins group none q r : List ℕ)
     → (Marks (drop a group) → ⊥) ⊎ Marks (take a group) → BothServing a first b second pins (take a group) none q r → Serves pins group (q ++ r)
-first-part-serves a first b second pins group none q r c s =
+first_part_serves a first b second pins group none q r c s =
     let l = s.0.0.1.0 in
     let meets = s.0.1.1 in (
       agrees_both a pins q r l s.0.1.0 s.1.1.0,
@@ -123,18 +123,18 @@ first-part-serves a first b second pins group none q r c s =
     )
 
 -- the same where the second half meets its part, and that part marks a statement
-pub second-part-serves :
+pub second_part_serves :
     (a : ℕ) (first : List ℕ → Type 0) (b : ℕ) (second : List ℕ → Type 0) (pins group none q r : List ℕ)
     → Marks (drop a group) → BothServing a first b second pins none (drop a group) q r → Serves pins group (q ++ r)
-second-part-serves a first b second pins group none q r m s =
+second_part_serves a first b second pins group none q r m s =
     let l = s.0.0.1.0 in
     (agrees_both a pins q r l s.0.1.0 s.1.1.0, λ n. fails_second a group q r l (s.1.1.1 m))
 
 -- where the second part of the group marks nothing, the halves of a joining that serves are plans for the two halves
-pub only-first-part :
+pub only_first_part :
     (a : ℕ) (first : List ℕ → Type 0) (b : ℕ) (second : List ℕ → Type 0) (pins group none q r : List ℕ)
     → Blank none → (Marks (drop a group) → ⊥) → Of a first q → Of b second r → Serves pins group (q ++ r) → BothServing a first b second pins (take a group) none q r
-only-first-part a first b second pins group none q r z n u v s =
+only_first_part a first b second pins group none q r z n u v s =
     let l = u.1.0 in (
       (
         u,
@@ -149,11 +149,11 @@ only-first-part a first b second pins group none q r z n u v s =
     )
 
 -- where it does, they are plans for the one or for the other way to share the group
-pub either-part :
+pub either_part :
     (a : ℕ) (first : List ℕ → Type 0) (b : ℕ) (second : List ℕ → Type 0) (pins group noneFirst noneSecond q r : List ℕ)
     → Blank noneFirst → Blank noneSecond → Marks (drop a group) → Of a first q → Of b second r → Serves pins group (q ++ r)
     → (Marks (take a group) × BothServing a first b second pins (take a group) noneSecond q r) ⊎ BothServing a first b second pins noneFirst (drop a group) q r
-either-part a first b second pins group noneFirst noneSecond q r y z m u v s =
+either_part a first b second pins group noneFirst noneSecond q r y z m u v s =
     let l = u.1.0 in
     let p = agrees_first a pins q r l s.0 in
     let t = agrees_second a pins q r l s.0 in
@@ -172,82 +172,82 @@ put_behind a xs q r l =
     ap (λ (zs : List ℕ). zs ++ (r ++ drop (length ys - a) (drop a ys))) e ∙ ap (λ (zs : List ℕ). q ++ (r ++ zs)) d ∙ ap (λ (zs : List ℕ). q ++ zs) (append-nil r)
 
 -- the second source decides, once the first has a plan
-pub second-decides :
+pub second_decides :
     (a : ℕ) (first : List ℕ → Type 0) (b : ℕ) (second : List ℕ → Type 0) (pins firstGroup secondGroup q r found : List ℕ) (t : Bool)
     → Serving a first (take a pins) firstGroup q → AskedOne b second (drop a pins) secondGroup t r → found ≡ q ++ r
     → AskedBoth a first b second pins firstGroup secondGroup t found
-second-decides a first b second pins firstGroup secondGroup q r found true u v e = (q, r, (u, v), e)
-second-decides a first b second pins firstGroup secondGroup q r found false u v e = λ x y s. v y s.1
+second_decides a first b second pins firstGroup secondGroup q r found true u v e = (q, r, (u, v), e)
+second_decides a first b second pins firstGroup secondGroup q r found false u v e = λ x y s. v y s.1
 
 -- the same, of what the code cuts and writes
-pub both-asked :
+pub both_asked :
     (a : ℕ) (first : List ℕ → Type 0) (b : ℕ) (second : List ℕ → Type 0) (pins firstGroup secondGroup firstPins secondPins found q r : List ℕ) (cut : ℕ) (t : Bool)
     → cut ≡ a → firstPins ≡ take cut pins → secondPins ≡ drop cut pins
     → Serving a first firstPins firstGroup q → AskedOne b second secondPins secondGroup t r
     → AskedBoth a first b second pins firstGroup secondGroup t (put_mid cut (length (q ++ post_of 0 (cut - 0) found) - cut) (q ++ post_of 0 (cut - 0) found) r)
-both-asked a first b second pins firstGroup secondGroup firstPins secondPins found q r cut t e f s u v =
-    second-decides a first b second pins firstGroup secondGroup q r (put_mid cut (length (q ++ post_of 0 (cut - 0) found) - cut) (q ++ post_of 0 (cut - 0) found) r) t
+both_asked a first b second pins firstGroup secondGroup firstPins secondPins found q r cut t e f s u v =
+    second_decides a first b second pins firstGroup secondGroup q r (put_mid cut (length (q ++ post_of 0 (cut - 0) found) - cut) (q ++ post_of 0 (cut - 0) found) r) t
     (subst (λ (xs : List ℕ). Serving a first xs firstGroup q) (f ∙ ap (λ n. take n pins) e) u)
     (subst (λ (xs : List ℕ). AskedOne b second xs secondGroup t r) (s ∙ ap (λ n. drop n pins) e) v)
     (put_behind cut found q r (u.0.1.0 ∙ sym e))
 
 -- plans for the two halves, the group shared out as the code cuts it
-pub shared-out :
+pub shared_out :
     (a : ℕ) (first : List ℕ → Type 0) (b : ℕ) (second : List ℕ → Type 0) (pins found f s f2 s2 : List ℕ) (t : Bool)
     → f ≡ f2 → s ≡ s2 → AskedBoth a first b second pins f s t found → AskedBoth a first b second pins f2 s2 t found
-shared-out a first b second pins found f s f2 s2 t e d h =
+shared_out a first b second pins found f s f2 s2 t e d h =
     subst (λ (y : List ℕ). AskedBoth a first b second pins f2 y t found) d (subst (λ (x : List ℕ). AskedBoth a first b second pins x s t found) e h)
 
 -- plans found for the two halves make a plan of the pair
-pub found-joins :
+pub found_joins :
     (a : ℕ) (first : List ℕ → Type 0) (b : ℕ) (second : List ℕ → Type 0) (pins group f s found : List ℕ)
     → a + b ≤ 512 → ((q r : List ℕ) → BothServing a first b second pins f s q r → Serves pins group (q ++ r))
     → FoundBoth a first b second pins f s found → JoiningServes a first b second pins group found
-found-joins a first b second pins group f s found n k h = (
+found_joins a first b second pins group f s found n k h = (
   (n, (h.0, h.1, h.2.0.0, h.2.1.0, h.3)),
   subst (Serves pins group) (sym h.3) (k h.0 h.1 h.2),
 )
 
 -- no plan of the pair serves where no two plans do that it could be made of
-pub none-joins :
+pub none_joins :
     (a : ℕ) (first : List ℕ → Type 0) (b : ℕ) (second : List ℕ → Type 0) (pins group : List ℕ)
     → ((q r : List ℕ) → Of a first q → Of b second r → Serves pins group (q ++ r) → ⊥)
     → (p : List ℕ) → JoiningServes a first b second pins group p → ⊥
-none-joins a first b second pins group k p j =
+none_joins a first b second pins group k p j =
     k j.0.1.0 j.0.1.1 j.0.1.2 j.0.1.3 (subst (Serves pins group) j.0.1.4 j.1)
 
 -- the answer where the second half of the group marks nothing
-pub first-share :
+pub first_share :
     (a : ℕ) (first : List ℕ → Type 0) (b : ℕ) (second : List ℕ → Type 0) (pins group none found : List ℕ) (t : Bool)
     → a + b ≤ 512 → Blank none → (Marks (drop a group) → ⊥)
     → AskedBoth a first b second pins (take a group) none t found → AskedJoining a first b second pins group t found
-first-share a first b second pins group none found true n z m h =
-    found-joins a first b second pins group (take a group) none found n (λ q r. first-part-serves a first b second pins group none q r (inl m)) h
-first-share a first b second pins group none found false n z m h =
-    none-joins a first b second pins group (λ q r u v s. h q r (only-first-part a first b second pins group none q r z m u v s))
+first_share a first b second pins group none found true n z m h =
+    found_joins a first b second pins group (take a group) none found n (λ q r. first_part_serves a first b second pins group none q r (inl m)) h
+first_share a first b second pins group none found false n z m h =
+    none_joins a first b second pins group (λ q r u v s. h q r (only_first_part a first b second pins group none q r z m u v s))
 
 -- the answer where only the second half marks a statement
-pub second-share :
+pub second_share :
     (a : ℕ) (first : List ℕ → Type 0) (b : ℕ) (second : List ℕ → Type 0) (pins group none noneSecond found : List ℕ) (t : Bool)
     → a + b ≤ 512 → Blank none → Blank noneSecond → (Marks (take a group) → ⊥) → Marks (drop a group)
     → AskedBoth a first b second pins none (drop a group) t found → AskedJoining a first b second pins group t found
-second-share a first b second pins group none noneSecond found true n y z k m h =
-    found-joins a first b second pins group none (drop a group) found n (λ q r. second-part-serves a first b second pins group none q r m) h
-second-share a first b second pins group none noneSecond found false n y z k m h =
-    none-joins a first b second pins group
-    (λ q r u v s. ⊎_elim (λ f. k f.0) (h q r) (either-part a first b second pins group none noneSecond q r y z m u v s))
+second_share a first b second pins group none noneSecond found true n y z k m h =
+    found_joins a first b second pins group none (drop a group) found n (λ q r. second_part_serves a first b second pins group none q r m) h
+second_share a first b second pins group none noneSecond found false n y z k m h =
+    none_joins a first b second pins group
+    (λ q r u v s. ⊎_elim (λ f. k f.0) (h q r) (either_part a first b second pins group none noneSecond q r y z m u v s))
 
 -- the answer where both mark one, and the second half was not met
-pub either-share :
+pub either_share :
     (a : ℕ) (first : List ℕ → Type 0) (b : ℕ) (second : List ℕ → Type 0) (pins group none noneSecond found : List ℕ) (t : Bool)
     → a + b ≤ 512 → Blank none → Blank noneSecond → Marks (take a group) → Marks (drop a group)
     → ((q r : List ℕ) → BothServing a first b second pins none (drop a group) q r → ⊥)
     → AskedBoth a first b second pins (take a group) noneSecond t found → AskedJoining a first b second pins group t found
-either-share a first b second pins group none noneSecond found true n y z k m no2 h =
-    found-joins a first b second pins group (take a group) noneSecond found n (λ q r. first-part-serves a first b second pins group noneSecond q r (inr k)) h
-either-share a first b second pins group none noneSecond found false n y z k m no2 h =
-    none-joins a first b second pins group
-    (λ q r u v s. ⊎_elim (λ f. h q r f.1) (no2 q r) (either-part a first b second pins group none noneSecond q r y z m u v s))
+either_share a first b second pins group none noneSecond found true n y z k m no2 h =
+    found_joins a first b second pins group (take a group) noneSecond found n (λ q r. first_part_serves a first b second pins group noneSecond q r (inr k)) h
+either_share a first b second pins group none noneSecond found false n y z k m no2 h =
+    none_joins a first b second pins group
+    (λ q r u v s. ⊎_elim (λ f. h q r f.1) (no2 q r) (either_part a first b second pins group none noneSecond q r y z m u v s))
 
 -- a group and one that marks nothing, cut after the first a bytes
 pub record Cut (a : ℕ) (group firstGroup secondGroup firstNone secondNone : List ℕ) : Type 0 where
@@ -263,10 +263,10 @@ blank_take a g z k =
 pub blank_drop : (a : ℕ) (g : List ℕ) → Blank g → Blank (drop a g)
 blank_drop a g z k = get_or-drop a g k 0 ∙ z (a + k)
 
-pub cut-made :
+pub cut_made :
     (a cut : ℕ) (group none fg sg fn sn : List ℕ)
     → cut ≡ a → fg ≡ take cut group → sg ≡ drop cut group → fn ≡ take cut none → sn ≡ drop cut none → Blank none → Cut a group fg sg fn sn
-cut-made a cut group none fg sg fn sn e p q r s z =
+cut_made a cut group none fg sg fn sn e p q r s z =
     record {
       first = p ∙ ap (λ n. take n group) e;
       second = q ∙ ap (λ n. drop n group) e;
@@ -275,43 +275,43 @@ cut-made a cut group none fg sg fn sn e p q r s z =
     }
 
 -- what the code asks for each share, and what its answer says of the pair
-pub share-first :
+pub share_first :
     (a : ℕ) (first : List ℕ → Type 0) (b : ℕ) (second : List ℕ → Type 0) (pins group fg sg fn sn found : List ℕ) (t : Bool)
     → Cut a group fg sg fn sn → a + b ≤ 512 → Shared fg sg First → AskedBoth a first b second pins fg sn t found → AskedJoining a first b second pins group t found
-share-first a first b second pins group fg sg fn sn found t k n m h =
-    first-share a first b second pins group sn found t n k.blank_second (λ z. m (subst Marks (sym k.second) z))
-    (shared-out a first b second pins found fg sn (take a group) sn t k.first refl h)
+share_first a first b second pins group fg sg fn sn found t k n m h =
+    first_share a first b second pins group sn found t n k.blank_second (λ z. m (subst Marks (sym k.second) z))
+    (shared_out a first b second pins found fg sn (take a group) sn t k.first refl h)
 
-pub share-second :
+pub share_second :
     (a : ℕ) (first : List ℕ → Type 0) (b : ℕ) (second : List ℕ → Type 0) (pins group fg sg fn sn found : List ℕ) (t : Bool)
     → Cut a group fg sg fn sn → a + b ≤ 512 → Shared fg sg Second → AskedBoth a first b second pins fn sg t found → AskedJoining a first b second pins group t found
-share-second a first b second pins group fg sg fn sn found t k n m h =
-    second-share a first b second pins group fn sn found t n k.blank_first k.blank_second (λ z. m.0 (subst Marks (sym k.first) z)) (subst Marks k.second m.1)
-    (shared-out a first b second pins found fn sg fn (drop a group) t refl k.second h)
+share_second a first b second pins group fg sg fn sn found t k n m h =
+    second_share a first b second pins group fn sn found t n k.blank_first k.blank_second (λ z. m.0 (subst Marks (sym k.first) z)) (subst Marks k.second m.1)
+    (shared_out a first b second pins found fn sg fn (drop a group) t refl k.second h)
 
-pub share-either-second :
+pub share_either_second :
     (a : ℕ) (first : List ℕ → Type 0) (b : ℕ) (second : List ℕ → Type 0) (pins group fg sg fn sn found : List ℕ)
     → Cut a group fg sg fn sn → a + b ≤ 512 → Shared fg sg Either → AskedBoth a first b second pins fn sg true found → AskedJoining a first b second pins group true found
-share-either-second a first b second pins group fg sg fn sn found k n m h =
-    found-joins a first b second pins group fn (drop a group) found n
-    (λ q r. second-part-serves a first b second pins group fn q r (subst Marks k.second m.1))
-    (shared-out a first b second pins found fn sg fn (drop a group) true refl k.second h)
+share_either_second a first b second pins group fg sg fn sn found k n m h =
+    found_joins a first b second pins group fn (drop a group) found n
+    (λ q r. second_part_serves a first b second pins group fn q r (subst Marks k.second m.1))
+    (shared_out a first b second pins found fn sg fn (drop a group) true refl k.second h)
 
-pub share-either-first :
+pub share_either_first :
     (a : ℕ) (first : List ℕ → Type 0) (b : ℕ) (second : List ℕ → Type 0) (pins group fg sg fn sn before found : List ℕ) (t : Bool)
     → Cut a group fg sg fn sn → a + b ≤ 512 → Shared fg sg Either → AskedBoth a first b second pins fn sg false before → AskedBoth a first b second pins fg sn t found
     → AskedJoining a first b second pins group t found
-share-either-first a first b second pins group fg sg fn sn before found t k n m no2 h =
-    either-share a first b second pins group fn sn found t n k.blank_first k.blank_second (subst Marks k.first m.0) (subst Marks k.second m.1)
-    (shared-out a first b second pins before fn sg fn (drop a group) false refl k.second no2)
-    (shared-out a first b second pins found fg sn (take a group) sn t k.first refl h)
+share_either_first a first b second pins group fg sg fn sn before found t k n m no2 h =
+    either_share a first b second pins group fn sn found t n k.blank_first k.blank_second (subst Marks k.first m.0) (subst Marks k.second m.1)
+    (shared_out a first b second pins before fn sg fn (drop a group) false refl k.second no2)
+    (shared_out a first b second pins found fg sn (take a group) sn t k.first refl h)
 
 -- what was found is put into the place, or the place stays
-pub put-answers :
+pub put_answers :
     (a : ℕ) (first : List ℕ → Type 0) (b : ℕ) (second : List ℕ → Type 0) (pins group before found after : List ℕ) (served : Bool) (r : Answer)
     → AskedJoining a first b second pins group served found → r ≡ answer_of served → after ≡ cond served found before
     → Answered a first b second pins group before r after
-put-answers a first b second pins group before found after true r h e d =
+put_answers a first b second pins group before found after true r h e d =
     subst (λ (x : Answer). Answered a first b second pins group before x after) (sym e) (subst (JoiningServes a first b second pins group) (sym d) h)
-put-answers a first b second pins group before found after false r h e d =
+put_answers a first b second pins group before found after false r h e d =
     subst (λ (x : Answer). Answered a first b second pins group before x after) (sym e) (h, d)

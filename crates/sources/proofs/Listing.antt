@@ -30,11 +30,11 @@ row_whole w n rows p l d a =
     )
 
 -- the first row that serves, copied into the place, is what a question asks for
-pub first-answers :
+pub first_answers :
     (w n : ℕ) (rows pins group before after : List ℕ) (i : ℕ) → Listable w n rows → Taken w pins group before → FirstServing w n rows pins group i → after ≡ row_at w rows i
     → Asked w (Of w (Among w n rows)) pins group before (Ok Plan) after
 unfolding RowServes
-first-answers w n rows pins group before after i l t f e =
+first_answers w n rows pins group before after i l t f e =
     let a : Among w n rows after = (i, f.0, e) in
     (t, (a, row_whole w n rows after l.2 l.3 a), subst (Serves pins group) (sym e) f.1)
 
@@ -47,13 +47,13 @@ none_answers w n rows pins group before after t f e =
     (t, λ p o s. f o.0.0 o.0.1 (subst (Serves pins group) o.0.2 s), e)
 
 -- so the first row that serves, put into the place, answers the question
-pub row-answers :
+pub row_answers :
     (w n : ℕ) (rows pins group before after : List ℕ) (o : Option ℕ) (r : Answer) → Listable w n rows → Taken w pins group before
     → MatchOption o (NoneServing w n rows pins group) (FirstServing w n rows pins group) → PutRow w rows o before r after
     → Asked w (Of w (Among w n rows)) pins group before (Ok r) after × GivesFirst w n rows pins group (Ok r) after
-row-answers w n rows pins group before after (Some i) r l t f p =
+row_answers w n rows pins group before after (Some i) r l t f p =
     subst (λ (a : Answer). Asked w (Of w (Among w n rows)) pins group before (Ok a) after × GivesFirst w n rows pins group (Ok a) after) (sym p.0)
-    (first-answers w n rows pins group before after i l t f p.1, (i, f, p.1))
-row-answers w n rows pins group before after None r l t f p =
+    (first_answers w n rows pins group before after i l t f p.1, (i, f, p.1))
+row_answers w n rows pins group before after None r l t f p =
     subst (λ (a : Answer). Asked w (Of w (Among w n rows)) pins group before (Ok a) after × GivesFirst w n rows pins group (Ok a) after) (sym p.0)
     (none_answers w n rows pins group before after t f p.1, f)

@@ -36,11 +36,11 @@ zeros_cut m n w z e h d =
     )
 
 -- what the halves answer is what the pair answers
-pub pair-answers :
+pub pair_answers :
     (a : ℕ) (first : List ℕ → Type 0) (b : ℕ) (second : List ℕ → Type 0) (w : ℕ) (pins group before after : List ℕ) (r : Answer)
     → w ≡ joined_width a b → Taken w pins group before → Answered a first b second pins group before r after
     → Asked (joined_width a b) (Of (joined_width a b) (Joining a first b second)) pins group before (Ok r) after
-pair-answers a first b second w pins group before after Plan e t h =
+pair_answers a first b second w pins group before after Plan e t h =
     let d = (pair_taken a b w pins group before e t).0 in
     let j = h.0.1 in (
       subst (λ (x : ℕ). Taken x pins group before) e t,
@@ -50,5 +50,5 @@ pair-answers a first b second w pins group before after Plan e t h =
       ),
       h.1,
     )
-pair-answers a first b second w pins group before after Nothing e t h =
+pair_answers a first b second w pins group before after Nothing e t h =
     (subst (λ (x : ℕ). Taken x pins group before) e t, λ p o s. h.0 p (o.0, s), h.1)

@@ -17,10 +17,10 @@ bit true = omega arith
 bit false = omega arith
 
 -- one test more
-pub count-more
+pub count_more
     : (f : ℕ → Bool) (n i r : ℕ) (b : Bool) → (n ≤ i) → (n ≡ counted_by f i) → b ≡ f i → r ≡ cond b 1 0
     → (n + r ≤ i + 1) × (n + r ≡ counted_by f (i + 1))
-count-more f n i r b l s t e =
+count_more f n i r b l s t e =
     let c : r ≡ cond (f i) 1 0 = e ∙ ap (λ x. cond x 1 0) t in
     let k : cond (f i) 1 0 ≤ 1 = bit (f i) in
     let m = counted_more f i in
@@ -30,7 +30,7 @@ pub not_none : (n : ℕ) → false ≡ eqb n 0 → n ≡ 0 → ⊥
 not_none n e z = both_ways (eqb n 0) (sym e) (eq-eqb n 0 z)
 
 -- one mark more
-pub lowest-more
+pub lowest_more
     : (rows : List Line) (limit i n v r : ℕ) (marks : List ℕ) (b : Bool)
     → i < 512 → length marks ≡ 512
     → n ≡ counted_by (λ j. line_has Open (line_at rows j)) i
@@ -40,7 +40,7 @@ pub lowest-more
     → (length (set marks i v) ≡ 512)
     × ((k : ℕ) → k < i + 1 → get_or (set marks i v) k 0 ≡ cond (lowest_of rows limit k) 1 0)
     × ((k : ℕ) → i + 1 ≤ k → get_or (set marks i v) k 0 ≡ 0)
-lowest-more rows limit i n v r marks b h l c f g t e = (
+lowest_more rows limit i n v r marks b h l c f g t e = (
   simp length-set l,
   (λ k x. ⊎_elim
       (λ (q : k ≡ i). ap (λ y. get_or (set marks i v) y 0) q ∙ get_or-set_same marks i v 0 (omega arith) ∙ here ∙ sym (ap (λ y. cond (lowest_of rows limit y) 1 0) q))

@@ -10,7 +10,7 @@ use Rattle.uses.specs.declared.SheetRefusal.TheVariants.{Length, Unbegun, Begun,
 use Rattle.uses.specs.declared.Word.{Word}
 use Rattle.uses.specs.declared.Word.TheVariants.{Open, Certain, Loose}
 use Rattle.uses.specs.Model.{word_number, State, Fresh, has, is_open, counted, lowest, Call, Reply, settle, tell, told}
-use Rattle.uses.specs.Step.{pinned_at, after_pin, Technique, Cause, Settles, Rest, Step, over, under, chunk, begin_length, begin_begun, settle_empty, settle_other, by_closed, by_zero, pin_unbegun, pin_again, tell_unbegun, tell_outside, tell_other, none, some, begins, settles, settlesBy, pins, tells, tallies, sent, taken}
+use Rattle.uses.specs.Step.{pinned_at, after_pin, Technique, Cause, Settles, Rest, Step, over, under, chunk, begin_length, begin_begun, settle_empty, settle_other, by_closed, by_zero, pin_unbegun, pin_again, tell_unbegun, tell_outside, tell_other, none, some, begins, settles, settles_by, pins, tells, tallies, sent, taken}
 use Rattle.uses.specs.Law.{AtStop, Between, Lowers, Kept, Starts, Continues}
 use Rattle.uses.specs.Use.{Event, event, pins_by, candidates_by, begun_by, no_pin, is_pin, is_settling, accepted, Number, Calls, Use, Told, HoldsInAll, FailsInSome, nil, one, not, stop, next, from}
 
@@ -196,22 +196,22 @@ module _ (w : ℕ) (plan : List ℕ → Type 0) where
         same : (b d : Bool) (x : ℕ) → x ≡ 1 → cond (cond b (eqb x 0) false) (cond d 2 x) x ≡ 1
         same b d x e = grind (arith, tests)
 
-    settle-leaves
+    settle_leaves
         : {m n : State} (g : ℕ → Bool) → ((k : ℕ) → g k ≡ true → is_open m k ≡ true)
         → (k : ℕ) → Settles w plan m g n → m.word k ≡ 2 → n.word k ≡ 2
-    settle-leaves {m} g o k (none f e) h = e k ∙ same (g k) (m.mark k) (m.word k) (o k) h
+    settle_leaves {m} g o k (none f e) h = e k ∙ same (g k) (m.mark k) (m.word k) (o k) h
       where
         same : (b d : Bool) (x : ℕ) → (b ≡ true → cond d (eqb x 0) false ≡ true) → x ≡ 2 → cond b 1 x ≡ 2
         same b d x f e = grind (arith, tests)
-    settle-leaves {m} g o k (some s sq sa j gj fj e) h = e k ∙ same (is_open m k) (eqb (get_or s k 0) 2) (m.word k) h
+    settle_leaves {m} g o k (some s sq sa j gj fj e) h = e k ∙ same (is_open m k) (eqb (get_or s k 0) 2) (m.word k) h
       where
         same : (b d : Bool) (x : ℕ) → x ≡ 2 → cond b (cond d 2 x) x ≡ 2
         same b d x e = grind arith
 
-    settle-certain
+    settle_certain
         : {m n : State} (g : ℕ → Bool) → Good m → Rest w plan m n → Settles w plan m g n
         → (k : ℕ) → n.mark k ≡ true → n.word k ≡ 1 → (p : List ℕ) → plan p → AgreesAt n.pin p → get_or p k 0 ≡ 1
-    settle-certain {m} {n} g i r (none f e) k t u p q a =
+    settle_certain {m} {n} g i r (none f e) k t u p q a =
         go (g k) refl
       where
         old : m.mark k ≡ true
@@ -223,7 +223,7 @@ module _ (w : ℕ) (plan : List ℕ → Type 0) where
         go : (b : Bool) → g k ≡ b → get_or p k 0 ≡ 1
         go true h = holds p q k (i.inside k old) (f p q a' k h)
         go false h = i.certain k old (sym (ap (λ b. cond b 1 (m.word k)) h) ∙ sym (e k) ∙ u) p q a'
-    settle-certain {m} {n} g i r (some s sq sa j gj fj e) k t u p q a =
+    settle_certain {m} {n} g i r (some s sq sa j gj fj e) k t u p q a =
         i.certain k old (was (is_open m k) (eqb (get_or s k 0) 2) (sym (e k) ∙ u)) p q (agrees_by n.pin m.pin r.pin p a)
       where
         old : m.mark k ≡ true
@@ -232,16 +232,16 @@ module _ (w : ℕ) (plan : List ℕ → Type 0) where
         was : (b d : Bool) → cond b (cond d 2 (m.word k)) (m.word k) ≡ 1 → m.word k ≡ 1
         was b d h = grind arith
 
-    settle-loose
+    settle_loose
         : {m n : State} (g : ℕ → Bool) → Good m → Rest w plan m n → Settles w plan m g n
         → (k : ℕ) → n.mark k ≡ true → n.word k ≡ 2 → (p : List ℕ) × plan p × AgreesAt n.pin p × (get_or p k 0 ≡ 2)
-    settle-loose {m} {n} g i r (none f e) k t u =
+    settle_loose {m} {n} g i r (none f e) k t u =
         let o = i.loose k (sym (r.mark k) ∙ t) (was (g k) (sym (e k) ∙ u)) in
         (o.0, o.1, agrees_by m.pin n.pin (λ x. sym (r.pin x)) o.0 o.2, o.3)
       where
         was : (b : Bool) → cond b 1 (m.word k) ≡ 2 → m.word k ≡ 2
         was b h = grind arith
-    settle-loose {m} {n} g i r (some s sq sa j gj fj e) k t u =
+    settle_loose {m} {n} g i r (some s sq sa j gj fj e) k t u =
         ⊎_elim
         (λ h. (s, sq, agrees_by m.pin n.pin (λ x. sym (r.pin x)) s sa, h))
         (λ h. let o = i.loose k (sym (r.mark k) ∙ t) h in (o.0, o.1, agrees_by m.pin n.pin (λ x. sym (r.pin x)) o.0 o.2, o.3))
@@ -250,16 +250,16 @@ module _ (w : ℕ) (plan : List ℕ → Type 0) where
         was : (b : Bool) (x : ℕ) → cond b (cond (eqb x 2) 2 (m.word k)) (m.word k) ≡ 2 → (x ≡ 2) ⊎ (m.word k ≡ 2)
         was b x h = grind (arith, tests)
 
-    settle-few
+    settle_few
         : {m n : State} (g : ℕ → Bool) → Good m → Rest w plan m n → Settles w plan m g n
         → (k : ℕ) → n.mark k ≡ true → n.word k ≤ 2
-    settle-few {m} {n} g i r (none f e) k t =
+    settle_few {m} {n} g i r (none f e) k t =
         let l : m.word k ≤ 2 = i.few k (sym (r.mark k) ∙ t) in
         subst (λ x. x ≤ 2) (sym (e k)) (bound (g k) (m.word k) l)
       where
         bound : (b : Bool) (x : ℕ) → x ≤ 2 → cond b 1 x ≤ 2
         bound b x l = grind arith
-    settle-few {m} {n} g i r (some s sq sa j gj fj e) k t =
+    settle_few {m} {n} g i r (some s sq sa j gj fj e) k t =
         subst (λ x. x ≤ 2) (sym (e k)) (bound (is_open m k) (eqb (get_or s k 0) 2) (m.word k) (i.few k (sym (r.mark k) ∙ t)))
       where
         bound : (b d : Bool) (x : ℕ) → x ≤ 2 → cond b (cond d 2 x) x ≤ 2
@@ -270,20 +270,20 @@ module _ (w : ℕ) (plan : List ℕ → Type 0) where
       unmarked = λ b k. r.mark k ∙ i.unmarked (sym r.begun ∙ b) k;
       unpinned = λ b k. r.pin k ∙ i.unpinned (sym r.begun ∙ b) k;
       inside = λ k t. i.inside k (sym (r.mark k) ∙ t);
-      few = settle-few g i r s;
-      certain = settle-certain g i r s;
-      loose = settle-loose g i r s;
+      few = settle_few g i r s;
+      certain = settle_certain g i r s;
+      loose = settle_loose g i r s;
     }
 
     -- begin
-    begin-good
+    begin_good
         : {n : State} (c p : List ℕ) → plan p → length c ≡ w
         → n.begun ≡ true
         → ((k : ℕ) → n.mark k ≡ eqb (get_or c k 0) 1)
         → ((k : ℕ) → n.pin k ≡ 0)
         → ((k : ℕ) → n.word k ≡ cond (eqb (get_or c k 0) 1) (cond (eqb (get_or p k 0) 2) 2 0) 0)
         → Good n
-    begin-good {n} c p q l b mk pn wd = record {
+    begin_good {n} c p q l b mk pn wd = record {
       unmarked = λ f. absurd (both_ways n.begun f b);
       unpinned = λ f. absurd (both_ways n.begun f b);
       inside = inside;
@@ -307,7 +307,7 @@ module _ (w : ℕ) (plan : List ℕ → Type 0) where
     at_pin : (f : ℕ → ℕ) (s way : ℕ) → pinned_at f s way s ≡ way
     at_pin f s way = ap (λ b. cond b way (f s)) (eq-eqb s s refl)
 
-    pin-good
+    pin_good
         : {m n : State} (s way : ℕ) → Good m → m.begun ≡ true → m.pin s ≡ 0
         → (p : List ℕ) → plan p → AgreesAt (pinned_at m.pin s way) p
         → n.begun ≡ m.begun
@@ -315,7 +315,7 @@ module _ (w : ℕ) (plan : List ℕ → Type 0) where
         → ((k : ℕ) → n.pin k ≡ pinned_at m.pin s way k)
         → ((k : ℕ) → n.word k ≡ cond (m.mark k) (after_pin s way k (m.word k) (get_or p k 0)) (m.word k))
         → Good n
-    pin-good {m} {n} s way i b z p q a nb mk pn wd = record {
+    pin_good {m} {n} s way i b z p q a nb mk pn wd = record {
       unmarked = λ f. absurd (both_ways n.begun f (nb ∙ b));
       unpinned = λ f. absurd (both_ways n.begun f (nb ∙ b));
       inside = λ k t. i.inside k (sym (mk k) ∙ t);
@@ -341,11 +341,11 @@ module _ (w : ℕ) (plan : List ℕ → Type 0) where
     step_good : {m n : State} {c : Call} {r : Reply} → Good m → Step w plan m c r n → Good n
     step_good i (sent x) = i
     step_good i (taken clear (begins {c = c} p q b mk pn wd)) =
-        begin-good c p q (stable (length c) w (λ f. clear Length (begin_length f))) b mk pn wd
+        begin_good c p q (stable (length c) w (λ f. clear Length (begin_length f))) b mk pn wd
     step_good i (taken clear (settles {g = g} x y t)) = settle_good (λ k. eqb (get_or g k 0) 1) i y x
-    step_good {m} i (taken clear (settlesBy l d x y t)) = settle_good (lowest m l) i y x
+    step_good {m} i (taken clear (settles_by l d x y t)) = settle_good (lowest m l) i y x
     step_good {m} i (taken clear (pins {s = s} {way = way} p q a b mk pn wd)) =
-        pin-good s way i (stable_true m.begun (λ f. clear Unbegun (pin_unbegun f))) (stable (m.pin s) 0 (λ f. clear Pinned (pin_again f))) p q a b mk pn wd
+        pin_good s way i (stable_true m.begun (λ f. clear Unbegun (pin_unbegun f))) (stable (m.pin s) 0 (λ f. clear Pinned (pin_again f))) p q a b mk pn wd
     step_good i (taken clear tells) = i
     step_good i (taken clear tallies) = i
 
@@ -355,7 +355,7 @@ module _ (w : ℕ) (plan : List ℕ → Type 0) where
         record { begun = b; mark = mk; pin = λ k. pn k ∙ sym (i.unpinned (stable_false m.begun (λ f. clear Begun (begin_begun f))) k) ∙ t.pin k }
     step_ties i t (taken clear (settles x y e)) =
         record { begun = y.begun ∙ t.begun; mark = λ k. y.mark k ∙ t.mark k; pin = λ k. y.pin k ∙ t.pin k }
-    step_ties i t (taken clear (settlesBy l d x y e)) =
+    step_ties i t (taken clear (settles_by l d x y e)) =
         record { begun = y.begun ∙ t.begun; mark = λ k. y.mark k ∙ t.mark k; pin = λ k. y.pin k ∙ t.pin k }
     step_ties i t (taken clear (pins {s = s} {way = way} p q a b mk pn wd)) =
         record { begun = b ∙ t.begun; mark = λ k. mk k ∙ t.mark k; pin = λ k. pn k ∙ ap (λ x. cond (eqb k s) way x) (t.pin k) }
@@ -389,48 +389,48 @@ module _ (w : ℕ) (plan : List ℕ → Type 0) where
         }
 
     -- certain stays certain
-    keep-certain
+    keep_certain
         : {m n : State} {c : Call} {r : Reply} → Good m → (k : ℕ) → Step w plan m c r n
         → m.mark k ≡ true → m.word k ≡ 1 → (n.mark k ≡ true) × (n.word k ≡ 1)
-    keep-certain i k (sent x) t e = (t, e)
-    keep-certain {m} i k (taken clear (begins p q b mk pn wd)) t e =
+    keep_certain i k (sent x) t e = (t, e)
+    keep_certain {m} i k (taken clear (begins p q b mk pn wd)) t e =
         absurd (both_ways (m.mark k) (i.unmarked (stable_false m.begun (λ f. clear Begun (begin_begun f))) k) t)
-    keep-certain {m} i k (taken clear (settles {g = g} x y z)) t e = (y.mark k ∙ t, settle_keeps (λ k. eqb (get_or g k 0) 1) k x e)
-    keep-certain {m} i k (taken clear (settlesBy l d x y z)) t e = (y.mark k ∙ t, settle_keeps (lowest m l) k x e)
-    keep-certain {m} i k (taken clear (pins {s = s} {way = way} p q a b mk pn wd)) t e =
+    keep_certain {m} i k (taken clear (settles {g = g} x y z)) t e = (y.mark k ∙ t, settle_keeps (λ k. eqb (get_or g k 0) 1) k x e)
+    keep_certain {m} i k (taken clear (settles_by l d x y z)) t e = (y.mark k ∙ t, settle_keeps (lowest m l) k x e)
+    keep_certain {m} i k (taken clear (pins {s = s} {way = way} p q a b mk pn wd)) t e =
         (mk k ∙ t, wd k ∙ ap (λ x. cond x (after_pin s way k (m.word k) (get_or p k 0)) (m.word k)) t ∙ pin_keeps s way k (m.word k) (get_or p k 0) e)
-    keep-certain i k (taken clear tells) t e = (t, e)
-    keep-certain i k (taken clear tallies) t e = (t, e)
+    keep_certain i k (taken clear tells) t e = (t, e)
+    keep_certain i k (taken clear tallies) t e = (t, e)
 
     -- loose stays loose where no pin is accepted
     inside_open : {m : State} {g : List ℕ} → ((e : SheetRefusal) → Cause w plan m (settle g) e → ⊥) → (k : ℕ) → eqb (get_or g k 0) 1 ≡ true → is_open m k ≡ true
     inside_open {m} {g} clear k t = stable_true (is_open m k) (λ f. clear Group (settle_other k (eqb-true (get_or g k 0) 1 t) f))
 
-    keep-loose
+    keep_loose
         : {m n : State} {c : Call} {r : Reply} (es : List Event) → Good m → (k : ℕ) → Step w plan m c r n → no_pin (event c r ∷ es) ≡ true
         → m.mark k ≡ true → m.word k ≡ 2 → (n.mark k ≡ true) × (n.word k ≡ 2)
-    keep-loose es i k (sent x) h t e = (t, e)
-    keep-loose {m} es i k (taken clear (begins p q b mk pn wd)) h t e =
+    keep_loose es i k (sent x) h t e = (t, e)
+    keep_loose {m} es i k (taken clear (begins p q b mk pn wd)) h t e =
         absurd (both_ways (m.mark k) (i.unmarked (stable_false m.begun (λ f. clear Begun (begin_begun f))) k) t)
-    keep-loose {m} es i k (taken clear (settles {g = g} x y z)) h t e =
-        (y.mark k ∙ t, settle-leaves (λ k. eqb (get_or g k 0) 1) (inside_open {g = g} clear) k x e)
-    keep-loose {m} es i k (taken clear (settlesBy l d x y z)) h t e =
-        (y.mark k ∙ t, settle-leaves (lowest m l) (λ j. has_mark (is_open m j) (ltb (counted m Open j) l)) k x e)
-    keep-loose es i k (taken clear (pins p q a b mk pn wd)) h t e = absurd (both_ways false refl h)
-    keep-loose es i k (taken clear tells) h t e = (t, e)
-    keep-loose es i k (taken clear tallies) h t e = (t, e)
+    keep_loose {m} es i k (taken clear (settles {g = g} x y z)) h t e =
+        (y.mark k ∙ t, settle_leaves (λ k. eqb (get_or g k 0) 1) (inside_open {g = g} clear) k x e)
+    keep_loose {m} es i k (taken clear (settles_by l d x y z)) h t e =
+        (y.mark k ∙ t, settle_leaves (lowest m l) (λ j. has_mark (is_open m j) (ltb (counted m Open j) l)) k x e)
+    keep_loose es i k (taken clear (pins p q a b mk pn wd)) h t e = absurd (both_ways false refl h)
+    keep_loose es i k (taken clear tells) h t e = (t, e)
+    keep_loose es i k (taken clear tallies) h t e = (t, e)
 
     all_certain : {m n : State} {es : List Event} → Good m → (k : ℕ) → Calls w plan m es n → m.mark k ≡ true → m.word k ≡ 1 → (n.mark k ≡ true) × (n.word k ≡ 1)
     all_certain i k stop t e = (t, e)
-    all_certain i k (next s x) t e = let h = all_certain i k s t e in keep-certain (calls_good i s) k x h.0 h.1
+    all_certain i k (next s x) t e = let h = all_certain i k s t e in keep_certain (calls_good i s) k x h.0 h.1
 
-    all-loose
+    all_loose
         : {m n : State} {es : List Event} → Good m → (k : ℕ) → Calls w plan m es n → no_pin es ≡ true
         → m.mark k ≡ true → m.word k ≡ 2 → (n.mark k ≡ true) × (n.word k ≡ 2)
-    all-loose i k stop f t e = (t, e)
-    all-loose i k (next {es = es} {c = c} {r = r} s x) f t e =
-        let h = all-loose i k s (pins_rest (accepted r) (is_pin c) (no_pin es) f) t e in
-        keep-loose es (calls_good i s) k x f h.0 h.1
+    all_loose i k stop f t e = (t, e)
+    all_loose i k (next {es = es} {c = c} {r = r} s x) f t e =
+        let h = all_loose i k s (pins_rest (accepted r) (is_pin c) (no_pin es) f) t e in
+        keep_loose es (calls_good i s) k x f h.0 h.1
 
     between : (es : List Event) (m : State) (later : List Event) (n : State) → Use w plan es m → Calls w plan m later n → Between w plan es m later n
     unfolding HoldsInAll
@@ -439,7 +439,7 @@ module _ (w : ℕ) (plan : List ℕ → Type 0) where
           let h = all_certain i k s (tell_mark t.answer) (tell_word t.answer) in
           (has_told i' t' Certain k h.0 h.1, always' k h.0 h.1);
       loose = λ f k t.
-          let h = all-loose i k s f (tell_mark t.answer) (tell_word t.answer) in
+          let h = all_loose i k s f (tell_mark t.answer) (tell_word t.answer) in
           has_told i' t' Loose k h.0 h.1;
     }
       where
@@ -493,10 +493,10 @@ module _ (w : ℕ) (plan : List ℕ → Type 0) where
         : {m n : State} → Rest w plan m n → (k : ℕ) → (n.word k ≡ 0 → ⊥) → is_open n k ≡ false
     closes {m} {n} r k h = stable_false (is_open n k) (λ o. h (eqb-true (n.word k) 0 (has_test (n.mark k) (eqb (n.word k) 0) o)))
 
-    pub settle-shrinks
+    pub settle_shrinks
         : {m n : State} (g : ℕ → Bool) → Rest w plan m n → Settles w plan m g n
         → (k : ℕ) → is_open n k ≡ true → is_open m k ≡ true
-    settle-shrinks {m} {n} g r s k o =
+    settle_shrinks {m} {n} g r s k o =
         has_from (m.mark k) (eqb (m.word k) 0) (sym (r.mark k) ∙ has_mark (n.mark k) (eqb (n.word k) 0) o)
         (eq-eqb (m.word k) 0 (was s))
       where
@@ -513,21 +513,21 @@ module _ (w : ℕ) (plan : List ℕ → Type 0) where
         was (none f e) = one' (g k) (m.word k) (sym (e k) ∙ z)
         was (some p pq pa j gj fj e) = two' (is_open m k) (eqb (get_or p k 0) 2) (m.word k) (sym (e k) ∙ z)
 
-    settle-lowers
+    settle_lowers
         : {m n : State} (g : ℕ → Bool) → Good m → ((k : ℕ) → g k ≡ true → is_open m k ≡ true)
         → (((k : ℕ) → g k ≡ true → ⊥) → ⊥)
         → Rest w plan m n → Settles w plan m g n → counted n Open w < counted m Open w
-    settle-lowers {m} {n} g i o ne r (none f e) =
+    settle_lowers {m} {n} g i o ne r (none f e) =
         ⊎_elim (λ (x : counted n Open w < counted m Open w). x) (λ (x : counted m Open w ≤ counted n Open w). absurd (ne (λ k gk.
         let op : is_open m k ≡ true = o k gk in
-        let l : counted n Open w < counted m Open w = counted_lt m n (settle-shrinks g r (none f e)) k op (closes r k (shut k gk)) w (i.inside k (has_mark (m.mark k) (eqb (m.word k) 0) op)) in
+        let l : counted n Open w < counted m Open w = counted_lt m n (settle_shrinks g r (none f e)) k op (closes r k (shut k gk)) w (i.inside k (has_mark (m.mark k) (eqb (m.word k) 0) op)) in
         omega arith)))
         (cases_lt (counted n Open w) (counted m Open w))
       where
         shut : (k : ℕ) → g k ≡ true → n.word k ≡ 0 → ⊥
         shut k gk z = let h : n.word k ≡ 1 = e k ∙ ap (λ b. cond b 1 (m.word k)) gk in omega arith
-    settle-lowers {m} {n} g i o ne r (some p pq pa j gj fj e) =
-        counted_lt m n (settle-shrinks g r (some p pq pa j gj fj e)) j op (closes r j shut) w (i.inside j (has_mark (m.mark j) (eqb (m.word j) 0) op))
+    settle_lowers {m} {n} g i o ne r (some p pq pa j gj fj e) =
+        counted_lt m n (settle_shrinks g r (some p pq pa j gj fj e)) j op (closes r j shut) w (i.inside j (has_mark (m.mark j) (eqb (m.word j) 0) op))
       where
         op : is_open m j ≡ true
         op = o j gj
@@ -543,9 +543,9 @@ module _ (w : ℕ) (plan : List ℕ → Type 0) where
     lowered i (sent x) s a = absurd (both_ways false refl a)
     lowered i (taken clear (begins p q b mk pn wd)) s a = absurd (both_ways false refl s)
     lowered i (taken clear (settles {g = g} x y z)) s a =
-        settle-lowers (λ k. eqb (get_or g k 0) 1) i (inside_open {g = g} clear) (λ f. clear Group (settle_empty (λ k e. f k (eq-eqb (get_or g k 0) 1 e)))) y x
-    lowered {m} i (taken clear (settlesBy {size = size} l d x y z)) s a =
-        settle-lowers (lowest m l) i (λ j. has_mark (is_open m j) (ltb (counted m Open j) l))
+        settle_lowers (λ k. eqb (get_or g k 0) 1) i (inside_open {g = g} clear) (λ f. clear Group (settle_empty (λ k e. f k (eq-eqb (get_or g k 0) 1 e)))) y x
+    lowered {m} i (taken clear (settles_by {size = size} l d x y z)) s a =
+        settle_lowers (lowest m l) i (λ j. has_mark (is_open m j) (ltb (counted m Open j) l))
         (λ f. clear NoneOpen (by_closed (λ k o.
         let j = lowest_open m k o in
         let in' : j.0 < w = i.inside j.0 (has_mark (m.mark j.0) (eqb (m.word j.0) 0) j.1) in

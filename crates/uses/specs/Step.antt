@@ -92,7 +92,7 @@ module _ (w : ℕ) (plan : List ℕ → Type 0) (m : State) where
         → Settles (λ k. nat_eq (slice_index g k) 1) n → Rest n
         → t + counted n Open w ≡ counted m Open w
         → Effect (settle g) (settled t) n
-    settlesBy
+    settles_by
         : {name : List ℕ} {size : ℕ} {n : State} {t : ℕ} (limit : ℕ)
         → Technique name size w limit
         → Settles (lowest m limit) n → Rest n

@@ -1,18 +1,18 @@
 use Rattle.source.specs.Plans.{Of}
 use Rattle.std.proofs.Common.{refl, ◌∙◌, arith}
-use Rattle.runs.proofs.Running.{sofar-none, sofar-more, ran}
+use Rattle.runs.proofs.Running.{sofar_none, sofar_more, ran}
 use Rattle.sheet.specs.View.{Steps}
 use Rattle.runs.proofs.run.run.Goals as goal
 
 pub loop-i-init : goal.loop-i-init
 loop-i-init g c =
-    (refl, sofar-none g.S.Source.wide (λ x. Of (g.S.Source.wide x) (g.S.Source.plan x)) c.args.source c.new-sheet.result.source c.new-sheet.result.table c.args.calls.now c.args.replies.now c.new-sheet.ensures.source c.new-sheet.ensures.fresh)
+    (refl, sofar_none g.S.Source.wide (λ x. Of (g.S.Source.wide x) (g.S.Source.plan x)) c.args.source c.new-sheet.result.source c.new-sheet.result.table c.args.calls.now c.args.replies.now c.new-sheet.ensures.source c.new-sheet.ensures.fresh)
 
 pub loop-i-preserved : goal.loop-i-preserved
 unfolding Steps
 loop-i-preserved g c = (
   c.put.ensures.source ∙ c.loop-i.invariant.0,
-  sofar-more g.S.Source.wide (λ x. Of (g.S.Source.wide x) (g.S.Source.plan x)) c.new-sheet.result.source c.loop-i.sheet.source c.args.calls.now c.args.replies.now c.loop-i.replies c.loop-i.i
+  sofar_more g.S.Source.wide (λ x. Of (g.S.Source.wide x) (g.S.Source.plan x)) c.new-sheet.result.source c.loop-i.sheet.source c.args.calls.now c.args.replies.now c.loop-i.replies c.loop-i.i
       _ c.put.result c.loop-i.sheet.table c.put.new.sheet.table
       (omega arith) (omega arith) c.loop-i.invariant.0 c.loop-i.invariant.1 c.put.ensures.step,
 )

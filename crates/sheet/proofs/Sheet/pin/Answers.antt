@@ -12,7 +12,7 @@ use Rattle.sheet.proofs.Sheet.pin.Goals as goal
 pub returns-in_err-may_pin : goal.returns-in_err-may_pin
 unfolding Steps
 returns-in_err-may_pin g c =
-    let s = Rows.pin-refused (g.S.Source.wide c.args.self.now.source) (Of (g.S.Source.wide c.args.self.now.source) (g.S.Source.plan c.args.self.now.source)) c.args.self.now.table c.args.statement c.args.way c.from_residual.result c.in_err-may_pin.field-0.0 (Rows.err_is c.from_residual.result c.in_err-may_pin.field-0.0 c.from_residual.ensures.1) (subst (λ v. MayPin v c.args.self.now.table c.args.statement c.args.way (Err c.in_err-may_pin.field-0.0)) c.width.ensures.value c.in_err-may_pin.ensures) in
+    let s = Rows.pin_refused (g.S.Source.wide c.args.self.now.source) (Of (g.S.Source.wide c.args.self.now.source) (g.S.Source.plan c.args.self.now.source)) c.args.self.now.table c.args.statement c.args.way c.from_residual.result c.in_err-may_pin.field-0.0 (Rows.err_is c.from_residual.result c.in_err-may_pin.field-0.0 c.from_residual.ensures.1) (subst (λ v. MayPin v c.args.self.now.table c.args.statement c.args.way (Err c.in_err-may_pin.field-0.0)) c.width.ensures.value c.in_err-may_pin.ensures) in
     record { source = refl; step = s; law = law_continues _ _ _ _ _ _ s }
 
 pub pin_lines-requires : goal.pin_lines-requires
@@ -32,5 +32,5 @@ pin_lines-requires g c =
 pub returns : goal.returns
 unfolding Steps
 returns g c =
-    let s = Rows.pin-asked (g.S.Source.wide c.args.self.now.source) (Of (g.S.Source.wide c.args.self.now.source) (g.S.Source.plan c.args.self.now.source)) c.args.self.now.table c.args.statement c.args.way c.pin_lines.new.self.table c.pins_with-pins.result c.zeros-none.result c.pin_lines.new.place 512 c.pin_lines.result (subst (λ v. MayPin v c.args.self.now.table c.args.statement c.args.way (Ok tt)) c.width.ensures.value c.in_ok-may_pin.ensures) c.pins_with-pins.ensures c.zeros-none.ensures c.pin_lines.ensures.asked in
+    let s = Rows.pin_asked (g.S.Source.wide c.args.self.now.source) (Of (g.S.Source.wide c.args.self.now.source) (g.S.Source.plan c.args.self.now.source)) c.args.self.now.table c.args.statement c.args.way c.pin_lines.new.self.table c.pins_with-pins.result c.zeros-none.result c.pin_lines.new.place 512 c.pin_lines.result (subst (λ v. MayPin v c.args.self.now.table c.args.statement c.args.way (Ok tt)) c.width.ensures.value c.in_ok-may_pin.ensures) c.pins_with-pins.ensures c.zeros-none.ensures c.pin_lines.ensures.asked in
     record { source = c.pin_lines.ensures.source; step = s; law = law_continues _ _ _ _ _ _ s }

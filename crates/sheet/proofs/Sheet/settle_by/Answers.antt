@@ -9,7 +9,7 @@ use Rattle.sheet.proofs.Sheet.settle_by.Goals as goal
 pub returns-in_err-limit : goal.returns-in_err-limit
 unfolding Steps
 returns-in_err-limit g c =
-    let s = Rows.by-refused (g.S.Source.wide c.args.self.now.source) (Of (g.S.Source.wide c.args.self.now.source) (g.S.Source.plan c.args.self.now.source)) c.args.self.now.table c.args.technique.now c.args.size c.from_residual.result c.in_err-limit.field-0.0 (Rows.err_is c.from_residual.result c.in_err-limit.field-0.0 c.from_residual.ensures.1) (subst (λ v. MaySettleBy v c.args.self.now.table c.args.technique.now c.args.size (Err c.in_err-limit.field-0.0)) c.width.ensures.value c.in_err-limit.ensures) in
+    let s = Rows.by_refused (g.S.Source.wide c.args.self.now.source) (Of (g.S.Source.wide c.args.self.now.source) (g.S.Source.plan c.args.self.now.source)) c.args.self.now.table c.args.technique.now c.args.size c.from_residual.result c.in_err-limit.field-0.0 (Rows.err_is c.from_residual.result c.in_err-limit.field-0.0 c.from_residual.ensures.1) (subst (λ v. MaySettleBy v c.args.self.now.table c.args.technique.now c.args.size (Err c.in_err-limit.field-0.0)) c.width.ensures.value c.in_err-limit.ensures) in
     record { source = refl; step = s; law = law_continues _ _ _ _ _ _ s }
 
 pub settle_marks-requires : goal.settle_marks-requires
@@ -26,5 +26,5 @@ settle_marks-requires g c =
 pub returns : goal.returns
 unfolding Steps
 returns g c =
-    let s = Rows.by-done (g.S.Source.wide c.args.self.now.source) (Of (g.S.Source.wide c.args.self.now.source) (g.S.Source.plan c.args.self.now.source)) c.args.self.now.table c.args.technique.now c.args.size c.in_ok-limit.limit (subst (λ v. MaySettleBy v c.args.self.now.table c.args.technique.now c.args.size (Ok c.in_ok-limit.limit)) c.width.ensures.value c.in_ok-limit.ensures) c.lowest-marks.result c.lowest-marks.ensures c.settle_marks.new.self.table c.settle_marks.result c.settle_marks.ensures.settles c.settle_marks.ensures.rest c.settle_marks.ensures.count in
+    let s = Rows.by_done (g.S.Source.wide c.args.self.now.source) (Of (g.S.Source.wide c.args.self.now.source) (g.S.Source.plan c.args.self.now.source)) c.args.self.now.table c.args.technique.now c.args.size c.in_ok-limit.limit (subst (λ v. MaySettleBy v c.args.self.now.table c.args.technique.now c.args.size (Ok c.in_ok-limit.limit)) c.width.ensures.value c.in_ok-limit.ensures) c.lowest-marks.result c.lowest-marks.ensures c.settle_marks.new.self.table c.settle_marks.result c.settle_marks.ensures.settles c.settle_marks.ensures.rest c.settle_marks.ensures.count in
     record { source = c.settle_marks.ensures.source; step = s; law = law_continues _ _ _ _ _ _ s }

@@ -1,4 +1,4 @@
-use Rattle.sources.proofs.Widths.{pair_taken, zeros_cut, pair-answers}
+use Rattle.sources.proofs.Widths.{pair_taken, zeros_cut, pair_answers}
 use Rattle.sources.proofs.pair.PairSource.question.Goals as goal
 
 pub answer-requires : goal.answer-requires
@@ -13,6 +13,6 @@ answer-requires g c =
 
 pub returns : goal.returns
 returns g c =
-    pair-answers (g.F.Source.wide c.args.self.now.first) (g.F.Source.plan c.args.self.now.first) (g.S.Source.wide c.args.self.now.second) (g.S.Source.plan c.args.self.now.second)
+    pair_answers (g.F.Source.wide c.args.self.now.first) (g.F.Source.plan c.args.self.now.first) (g.S.Source.wide c.args.self.now.second) (g.S.Source.plan c.args.self.now.second)
     c.width-width.result c.args.pins.now c.args.group.now c.args.place.now c.answer.new.place c.answer.result
     c.width-width.ensures.value c.in_default.ensures.cause c.answer.ensures

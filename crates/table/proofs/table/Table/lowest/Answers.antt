@@ -1,7 +1,7 @@
 use Rattle.std.proofs.Common.{refl, arith}
 use Rattle.table.specs.Blank.{line_at}
 use Rattle.table.specs.Lineup.{line_has}
-use Rattle.table.proofs.Counting.{count-more, lowest-more}
+use Rattle.table.proofs.Counting.{count_more, lowest_more}
 use Rattle.table.proofs.Zeros.{zeros_all}
 use Rattle.uses.specs.declared.Word.TheVariants.{Open}
 use Rattle.table.proofs.table.Table.lowest.Goals as goal
@@ -12,8 +12,8 @@ loop-i-init c = (omega arith, refl, refl, (λ k h. absurd (omega arith)), λ k h
 pub loop-i-preserved : goal.loop-i-preserved
 loop-i-preserved c =
     let n =
-    count-more (λ k. line_has Open (line_at c.args.self.now.lines.rows k)) _ _ _ _ c.loop-i.invariant.0 c.loop-i.invariant.1 c.has-open.ensures c.one_if-n.ensures in
+    count_more (λ k. line_has Open (line_at c.args.self.now.lines.rows k)) _ _ _ _ c.loop-i.invariant.0 c.loop-i.invariant.1 c.has-open.ensures c.one_if-n.ensures in
     let m =
-    lowest-more c.args.self.now.lines.rows c.args.limit c.loop-i.i c.loop-i.n c.lowest_mark.result 0 c.loop-i.marks c.has-open.result (omega arith) c.loop-i.invariant.2
+    lowest_more c.args.self.now.lines.rows c.args.limit c.loop-i.i c.loop-i.n c.lowest_mark.result 0 c.loop-i.marks c.has-open.result (omega arith) c.loop-i.invariant.2
     c.loop-i.invariant.1 c.loop-i.invariant.3 c.loop-i.invariant.4 c.has-open.ensures c.lowest_mark.ensures in
     (n.0, n.1, m.0, m.1, m.2)
