@@ -113,6 +113,8 @@ def main():
 
     for path, old, new in APART:
         path = os.path.join(".", path)
+        if new in texts[path]:
+            continue
         turned_text = re.sub(r"(?<![\w'.-])" + old + r"(?![\w'-])", new, texts[path])
         with open(path, "w", encoding="utf-8") as f:
             f.write(turned_text)

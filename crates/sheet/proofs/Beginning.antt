@@ -5,13 +5,13 @@ use Rattle.std.proofs.lemmas.List.{get_or_past, get_or-take}
 use Rattle.table.specs.declared.line.Line.{Line}
 use Rattle.uses.specs.declared.Word.TheVariants.{Open, Loose}
 use Rattle.table.specs.declared.table.Table.{Table}
-use Rattle.uses.specs.Model.{State, word_number_lem, begin, done}
+use Rattle.uses.specs.Model.{State, word_number, begin, done}
 use Rattle.uses.specs.Step.{Effect, begins}
 use Rattle.checks.specs.View.{view}
 use Rattle.table.specs.Blank.{line_at}
 use Rattle.table.specs.Lineup.{begun_line}
 
-word_number_lem : (b d : Bool) → word_number_lem (cond b (cond d Loose Open) Open) ≡ cond b (cond d 2 0) 0
+word_number_lem : (b d : Bool) → word_number (cond b (cond d Loose Open) Open) ≡ cond b (cond d 2 0) 0
 word_number_lem true true = refl
 word_number_lem true false = refl
 word_number_lem false d = refl
@@ -31,9 +31,9 @@ module _ (w : ℕ) (plan : List ℕ → Type 0) (cs marks place : List ℕ) (fit
       g : (k : ℕ) → line_at t.lines.rows k ≡ begun_line (get_or cs k 0) (get_or place k 0)
       g k = f k ∙ ap (λ x. begun_line x (get_or place k 0)) (same k)
 
-      word : (k : ℕ) → word_number_lem (line_at t.lines.rows k).word ≡ cond (eqb (get_or cs k 0) 1) (cond (eqb (get_or (take w place) k 0) 2) 2 0) 0
+      word : (k : ℕ) → word_number (line_at t.lines.rows k).word ≡ cond (eqb (get_or cs k 0) 1) (cond (eqb (get_or (take w place) k 0) 2) 2 0) 0
       word k =
-          ap (λ (l : Line). word_number_lem l.word) (g k)
+          ap (λ (l : Line). word_number l.word) (g k)
           ∙ word_number_lem (eqb (get_or cs k 0) 1) (eqb (get_or place k 0) 2)
           ∙ ⊎_elim
           (λ (h : k < w). ap (λ x. cond (eqb (get_or cs k 0) 1) (cond (eqb x 2) 2 0) 0) (sym (get_or-take w place k 0 h)))
