@@ -22,7 +22,7 @@ TOKEN = re.compile(r"(?<![\w'\-])(" + WORD + r")")
 CAMEL = re.compile(r"^[a-z]\w*[A-Z]")
 # A lemma that would fall together with the word it is about.
 LEMMA = {n: n.replace("-", "_") + "_lem" for n in (
-    "all-cancelled", "at-phase", "clauses-ok", "head-of", "in-reduct", "limit-of", "rule-at", "rule-of", "settled-word", "settles-by", "sure-from")}
+    "at-phase", "clauses-ok", "head-of", "in-reduct", "limit-of", "rule-at", "rule-of", "settled-word", "settles-by", "sure-from")}
 LEMMA["Rest-from"] = "rest_from"
 # The same where port.py had spelled the lemma already: file, name, new name.
 APART = [

@@ -62,14 +62,14 @@ module _ (n : ℕ) (rs : List RuleRow) (es : List ℕ) (ok : TableOk n rs es) wh
   statement_law s l C k =
       let rb = book_of n rs es in
       record {
-        all_cancelled_lem = λ all. k (2 * s + 1) (omega arith) (force_statement rb C (2 * s + 1) s l ∙ stated_from rb s C (2 * s + 1) (inl (refl, λ i li hd. all i (omega (arith, many n rs es)) hd)));
+        all_cancelled = λ all. k (2 * s + 1) (omega arith) (force_statement rb C (2 * s + 1) s l ∙ stated_from rb s C (2 * s + 1) (inl (refl, λ i li hd. all i (omega (arith, many n rs es)) hd)));
         backchain = λ i li hd d others e m. let lr : i < rows (book_of n rs es) = omega (arith, many n rs es) in
             k e ((table_sound n rs es ok).entries i e lr m) (force_statement rb C e s l ∙ stated_from rb s C e (inr (i, d, lr, hd, (λ j lj ne hj. others j (omega (arith, many n rs es)) ne hj), m)));
       }
 
   statement_back : (s : ℕ) → s < n → (C : ℕ → Bool) → StatementKept rs es s C → KeptAt (book_forces (book_of n rs es)) (rows (book_of n rs es) + s) C
   statement_back s l C d e le x = elim (stated_to rb s C e (sym (force_statement rb C e s l) ∙ x)) [
-    | inl r ↦ move C _ _ (sym r.0) (d.all_cancelled_lem (λ i li hd. r.1 i (omega (arith, many n rs es)) hd))
+    | inl r ↦ move C _ _ (sym r.0) (d.all_cancelled (λ i li hd. r.1 i (omega (arith, many n rs es)) hd))
     | inr r ↦ d.backchain r.0 (let lr = r.2 in omega (arith, many n rs es)) r.3 r.1 (λ j lj ne hj. r.4 j (omega (arith, many n rs es)) ne hj) e r.5
   ]
     where

@@ -204,7 +204,7 @@ pub kept_five : (rb : Book) → Sound rb → (D : ℕ → Bool) → forcing.Kept
 kept_five rb sound D k = record {
   forward = λ i h l hd all. k i (omega arith) (2 * h) (let b = sound.heads i h l hd in omega arith) (force_row rb D (2 * h) i l ∙ row_from (row rb i) D (2 * h) (inl (h, hd, refl, all)));
   contraposition = λ i e l hf m others. k i (omega arith) (contrary e) (let b = sound.entries i e l m in omega arith) (force_row rb D (contrary e) i l ∙ row_from (row rb i) D (contrary e) (inr (e, hf, m, refl, others)));
-  all_cancelled_lem = λ s l all. k (rows rb + s) (omega arith) (2 * s + 1) (omega arith) (force_statement rb D (2 * s + 1) s l ∙ stated_from rb s D (2 * s + 1) (inl (refl, all)));
+  all_cancelled = λ s l all. k (rows rb + s) (omega arith) (2 * s + 1) (omega arith) (force_statement rb D (2 * s + 1) s l ∙ stated_from rb s D (2 * s + 1) (inl (refl, all)));
   backchain = λ i s l hd d others e m. let ls = sound.heads i s l hd in
       k (rows rb + s) (omega arith) e (sound.entries i e l m) (force_statement rb D e s ls ∙ stated_from rb s D e (inr (i, d, l, hd, others, m)));
   unfounded_fails = λ U w unf s us.
@@ -230,7 +230,7 @@ five_kept rb D d k lk e le x = elim (which (rows rb) rb.width k) [
     by_row i l (inr (f, hf, m, q, others)) = move D _ _ (sym q) (d.contraposition i f l hf m others)
 
     by_statement : (s : ℕ) → s < rb.width → Stated rb s D e → D e ≡ true
-    by_statement s l (inl (q, all)) = move D _ _ (sym q) (d.all_cancelled_lem s l all)
+    by_statement s l (inl (q, all)) = move D _ _ (sym q) (d.all_cancelled s l all)
     by_statement s l (inr (i, ds, li, hd, others, m)) = d.backchain i s li hd ds others e m
 
 -- PLANS

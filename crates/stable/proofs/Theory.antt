@@ -117,7 +117,7 @@ module _ (rb : Book) (sound : Sound rb) (D : ℕ → Bool) (whole : Total rb.wid
     ]
 
     plan_kept : Kept rb D
-    plan_kept = record { forward = s_forward; contraposition = s_contraposition; all_cancelled_lem = s_all_cancelled; backchain = s_backchain; unfounded_fails = s_unfounded_fails }
+    plan_kept = record { forward = s_forward; contraposition = s_contraposition; all_cancelled = s_all_cancelled; backchain = s_backchain; unfounded_fails = s_unfounded_fails }
 
   -- a whole set that the five rules keep is a plan's
   module _ (kept : Kept rb D) (no-bar : Bodiless rb → ⊥) where

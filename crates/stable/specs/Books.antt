@@ -87,7 +87,7 @@ pub record Kept (rb : Book) (D : ℕ → Bool) : Type 0 where
   pub contraposition : (i e : ℕ) → i < rows rb → HeadFails D (row rb i).head → In e (row rb i).body →
       ((f : ℕ) → In f (row rb i).body → f ≢ e → D f ≡ true) → D (contrary e) ≡ true
   -- a statement whose rules are all cancelled fails
-  pub all_cancelled_lem : (s : ℕ) → s < rb.width →
+  pub all_cancelled : (s : ℕ) → s < rb.width →
       ((i : ℕ) → i < rows rb → (row rb i).head ≡ some s → Cancelled D (row rb i)) → D (2 * s + 1) ≡ true
   -- if a statement holds and all its rules but one are cancelled, each entry of that one holds
   pub backchain : (i s : ℕ) → i < rows rb → (row rb i).head ≡ some s → D (2 * s) ≡ true →

@@ -40,7 +40,7 @@ module _ (p : List ℕ) (rs : List RuleRow) (es : List ℕ) (s : ℕ) (small : s
   several_turn (i, j, li, lj, ne, si, sj) = (
     refl,
     record {
-      all_cancelled_lem = λ all. absurd (uncancelled i li si (all i li (headed i li si)));
+      all_cancelled = λ all. absurd (uncancelled i li si (all i li (headed i li si)));
       backchain = λ k lk hk d others e m. elim (cases_eq i k) [
         | inl q ↦ absurd (uncancelled j lj sj (others j lj (λ z. ne (q ∙ sym z)) (headed j lj sj)))
         | inr q ↦ absurd (uncancelled i li si (others i li q (headed i li si)))
@@ -50,8 +50,8 @@ module _ (p : List ℕ) (rs : List RuleRow) (es : List ℕ) (s : ℕ) (small : s
 
   pub nobody_turn : (q : List ℕ) (t : Step) → s < length p → UpTo 2 p → SupportIs p rs es s Nobody → Made p (2 * s + 1) q t → LawTurn (StatementKept rs es s) p q t
   nobody_turn q t l by none' d = decided_turn (StatementKept rs es s) p q (2 * s + 1) t (omega arith) by d
-      (λ C k u. k.all_cancelled_lem (λ i li hd. cancels C u i li (none' i li) hd))
-      (λ h. record { all_cancelled_lem = λ _. h; backchain = λ k lk hk ds others e m. absurd (holds_once p (2 * s) ds (subst (λ z. holds p z ≡ true) (sym (contrary_twice s)) h)) })
+      (λ C k u. k.all_cancelled (λ i li hd. cancels C u i li (none' i li) hd))
+      (λ h. record { all_cancelled = λ _. h; backchain = λ k lk hk ds others e m. absurd (holds_once p (2 * s) ds (subst (λ z. holds p z ≡ true) (sym (contrary_twice s)) h)) })
 
   -- s holds and only row i supports it
   pub only_turn : (q : List ℕ) (t : Step) (i : ℕ) → get_or p s 0 ≡ 1 → SupportIs p rs es s (Only i) →
@@ -60,7 +60,7 @@ module _ (p : List ℕ) (rs : List RuleRow) (es : List ℕ) (s : ℕ) (small : s
       (λ C k u j lj. k.backchain i li (headed i li si) (u (2 * s) (eq-eqb _ _ (let hf : (2 * s) / 2 ≡ s = omega arith in let x = ap (λ z. get_or p z 0) hf in omega arith)))
       (λ g lg ng hg. cancels C u g lg (others g lg ng) hg) (get_or b j 0) (subst (λ r. In (get_or b j 0) r.body) (sym (at i li)) (in_from b j lj)))
       (λ all. record {
-        all_cancelled_lem = λ c. absurd (uncancelled i li si (c i li (headed i li si)));
+        all_cancelled = λ c. absurd (uncancelled i li si (c i li (headed i li si)));
         backchain = λ k lk hk d oth e m. elim (cases_eq i k) [
           | inl z ↦ (let r = in_to b e (subst (λ y. In e y.body) (at i li) (subst (λ y. In e (rule_at rs es y).body) (sym z) m)) in subst (λ y. holds p y ≡ true) r.2 (all r.0 r.1))
           | inr z ↦ absurd (uncancelled i li si (oth i li z (headed i li si)))
@@ -74,7 +74,7 @@ module _ (p : List ℕ) (rs : List RuleRow) (es : List ℕ) (s : ℕ) (small : s
   only_idle i ne (li, si, others) = (
     refl,
     record {
-      all_cancelled_lem = λ c. absurd (uncancelled i li si (c i li (headed i li si)));
+      all_cancelled = λ c. absurd (uncancelled i li si (c i li (headed i li si)));
       backchain = λ k lk hk d oth e m. absurd (ne (let x = eqb-true _ _ d in let hf : (2 * s) / 2 ≡ s = omega arith in let y = ap (λ z. get_or p z 0) hf in omega arith));
     },
   )

@@ -133,7 +133,7 @@ HoldAt b k C = C (slice_index b k) ≡ true
 
 -- all cancelled and backchain for one statement
 pub record StatementKept (rows : List RuleRow) (es : List ℕ) (s : ℕ) (C : ℕ → Bool) : Type 0 where
-  pub all_cancelled_lem : ((i : ℕ) → i < length rows → (rule_at rows es i).head ≡ some s → Cancelled C (rule_at rows es i)) → C (2 * s + 1) ≡ true
+  pub all_cancelled : ((i : ℕ) → i < length rows → (rule_at rows es i).head ≡ some s → Cancelled C (rule_at rows es i)) → C (2 * s + 1) ≡ true
   pub backchain : (i : ℕ) → i < length rows → (rule_at rows es i).head ≡ some s → C (2 * s) ≡ true →
       ((j : ℕ) → j < length rows → j ≢ i → (rule_at rows es j).head ≡ some s → Cancelled C (rule_at rows es j)) →
       (e : ℕ) → In e (rule_at rows es i).body → C e ≡ true
