@@ -1,19 +1,12 @@
 -- What a question with the group of one statement says of that statement.
-use Rattle.std.proofs.Common.{◌≡◌, ℕ, ◌<◌, ◌≤◌, true, false, List, length, get_or, replicate, Ok, Err, Result, sym, ap, ◌∙◌, subst, ⊎_elim, arith}
+use Rattle.std.proofs.Common.{◌≡◌, refl, ℕ, ◌<◌, ◌≤◌, Bool, true, false, List, length, get_or, replicate, Ok, sym, ap, ◌∙◌, subst, ⊎_elim, arith}
 use Rattle.std.proofs.lemmas.List.{length-replicate, length-set, get_or-replicate, get_or_past, get_or-set_same, get_or-set_other, set_past}
 use Rattle.std.proofs.lemmas.Bool.{cases_lt, cases_eq}
 use Rattle.source.specs.Plans.{Of}
 use Rattle.source.specs.Asked.{Asked}
-use Rattle.source.specs.declared.Refusal.{Refusal}
 use Rattle.source.specs.declared.Answer.{Answer}
 use Rattle.source.specs.declared.Answer.TheVariants.{Plan, Nothing}
-use Rattle.certain.specs.Certain.{only_mark, told_by, Told}
-
--- no mark where the statement is past the end
-pub past_unmarked : (n k : ℕ) (zs : List ℕ) → n ≤ k → zs ≡ replicate n 0 → zs ≡ only_mark n k
-past_unmarked n k zs h e =
-    let l : length (replicate {A = ℕ} n 0) ≡ n = length-replicate n 0 in
-    e ∙ sym (set_past (replicate n 0) k 1 (omega arith))
+use Rattle.certain.specs.Certain.{only_mark, Told}
 
 -- a byte of zeros
 pub zero_at : (n j : ℕ) → ◌≡◌ {A = ℕ} (get_or (replicate n 0) j 0) 0
@@ -90,9 +83,11 @@ none_shows w plan pins group before after n k e h =
     )
 
 -- so the answer of the question tells
-pub question_tells :
-    (w : ℕ) (plan : List ℕ → Type 0) (pins group before after : List ℕ) (n k : ℕ) (r : Result Answer Refusal)
-    → group ≡ only_mark n k → Asked w (Of w plan) pins group before r after → Told w (Of w plan) pins k (only_mark n k) before (told_by r) after
-question_tells w plan pins group before after n k (Ok Plan) e h = plan_refutes w plan pins group before after n k e h
-question_tells w plan pins group before after n k (Ok Nothing) e h = none_shows w plan pins group before after n k e h
-question_tells w plan pins group before after n k (Err c) e h = subst (λ (x : List ℕ). Asked w (Of w plan) pins x before (Err c) after) e h
+pub answer_tells :
+    (w : ℕ) (plan : List ℕ → Type 0) (pins group before after : List ℕ) (n k : ℕ) (answer : Answer) (certain : Bool)
+    → group ≡ only_mark n k → Asked w (Of w plan) pins group before (Ok answer) after → (answer ≡ Plan → certain ≡ false) → (answer ≡ Nothing → certain ≡ true)
+    → Told w (Of w plan) pins k (only_mark n k) before (Ok certain) after
+answer_tells w plan pins group before after n k Plan certain e h refuted shown =
+    rw (refuted refl) (plan_refutes w plan pins group before after n k e h)
+answer_tells w plan pins group before after n k Nothing certain e h refuted shown =
+    rw (shown refl) (none_shows w plan pins group before after n k e h)

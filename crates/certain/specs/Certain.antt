@@ -1,12 +1,9 @@
 -- What holds in every plan of a source.
 --   Certain    a statement that holds in every plan that agrees with the pins
 --   only_mark  the group of one statement
---   told_by    what the answer of a question with that group says
 --   Told       what comes of asking whether a statement is certain
 use Rattle.std.specs.Prelude.{◌≡◌, ℕ, Bool, true, false, List, replicate, Ok, Err, Result, ◌≢◌, slice_index, slice_set}
 use Rattle.source.specs.declared.Refusal.{Refusal}
-use Rattle.source.specs.declared.Answer.{Answer}
-use Rattle.source.specs.declared.Answer.TheVariants.{Plan, Nothing}
 use Rattle.source.specs.Plans.{Agrees}
 use Rattle.source.specs.Asked.{Refused, Taken}
 
@@ -17,12 +14,6 @@ Certain plan pins k = (p : List ℕ) → plan p → Agrees pins p → slice_inde
 -- n statements of which k alone is marked; none is where k is not one of them
 abbrev pub only_mark : ℕ → ℕ → List ℕ
 only_mark n k = slice_set (replicate n 0) k 1
-
--- whether the statement is certain, by the answer of a question with that group
-abbrev pub told_by : Result Answer Refusal → Result Bool Refusal
-told_by (Ok Plan) = Ok false
-told_by (Ok Nothing) = Ok true
-told_by (Err e) = Err e
 
 -- true exactly when it is certain, with the place as before; false with a plan in the place in which it does not hold;
 -- a refusal by its cause, with the place as before

@@ -3,17 +3,19 @@
 
 ghost use Rattle.std.specs.Prelude.{◌≡◌, length};
 ghost use Rattle.source.specs.Plans.{Of};
-ghost use Rattle.certain.specs.Certain.{Told, only_mark, told_by};
+ghost use Rattle.certain.specs.Certain.{Told, only_mark};
 
+use source::bytes::{MARKED, UNMARKED};
 use source::{Answer, Refusal, Source};
 
 // Makes the group that marks the statement and nothing else.
 pub fn mark_only(group: &mut [u8], statement: usize)
     ensures { group.new ≡ only_mark (length group.old) statement }
 {
-    group.fill(0);
+    group.fill(UNMARKED);
+    // Stays: written through get_mut, the group's bytes are unknown to the proof.
     if statement < group.len() {
-        group[statement] = 1;
+        group[statement] = MARKED;
     }
 }
 
@@ -30,18 +32,6 @@ pub fn is_certain<S: Source>(
     ensures group { group.new ≡ only_mark (length group.old) statement }
 {
     mark_only(group, statement);
-    told_by(source.question(pins, group, place))
-}
-
-// A plan that fails at the statement refutes it; where there is none it is certain.
-fn told_by(asked: Result<Answer, Refusal>) -> Result<bool, Refusal>
-    ensures { result ≡ told_by asked }
-{
-    match asked {
-        Ok(answer) => match answer {
-            Answer::Plan => Ok(false),
-            Answer::Nothing => Ok(true),
-        },
-        Err(cause) => Err(cause),
-    }
+    // A plan that fails at the statement refutes it; where there is none it is certain.
+    Ok(source.question(pins, group, place)? == Answer::Nothing)
 }

@@ -4,7 +4,8 @@
 --   Taken    a question that is not refused
 --   Checked  the refusal, or that none applies
 --   Asked    the whole contract of a question
-use Rattle.std.specs.Prelude.{◌≡◌, ℕ, ◌<◌, ◌≤◌, List, length, Ok, Err, Result}
+--   Finds    whether a question finds a plan
+use Rattle.std.specs.Prelude.{◌≡◌, ℕ, ◌<◌, ◌≤◌, Bool, List, length, Ok, Err, Result, MatchBool}
 use Rattle.source.specs.declared.Refusal.{Refusal}
 use Rattle.source.specs.declared.Refusal.TheVariants.{Length, Value, Mark, Wide}
 use Rattle.source.specs.declared.Answer.{Answer}
@@ -39,3 +40,10 @@ Asked w plan pins group before (Ok Plan) after =
     Taken w pins group before × plan after × Serves pins group after
 Asked w plan pins group before (Ok Nothing) after =
     Taken w pins group before × ((p : List ℕ) → plan p → Serves pins group p → ⊥) × (after ≡ before)
+
+-- a serving plan is in the place, or the place is as before and no plan serves, unless the question is refused
+abbrev pub Finds : ℕ → (List ℕ → Type 0) → List ℕ → List ℕ → List ℕ → Bool → List ℕ → Type 0
+Finds w plan pins group before found after =
+    MatchBool found
+    (Taken w pins group before × plan after × Serves pins group after)
+    ((Taken w pins group before → (p : List ℕ) → plan p → Serves pins group p → ⊥) × (after ≡ before))

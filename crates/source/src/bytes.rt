@@ -14,8 +14,10 @@ pub const HOLDS: u8 = 1;
 
 pub const FAILS: u8 = 2;
 
-// The byte of a marked statement in a group; that of any other is 0.
+// The bytes of a group: that of a marked statement, and that of any other.
 pub const MARKED: u8 = 1;
+
+pub const UNMARKED: u8 = 0;
 
 // The byte at i, and 0 past the end.
 pub fn byte_at(bytes: &[u8], i: usize) -> u8

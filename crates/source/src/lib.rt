@@ -6,6 +6,7 @@ ghost use Rattle.source.specs.Plans.{Of};
 ghost use Rattle.source.specs.Numbers.{number_of};
 ghost use Rattle.source.specs.Asked.{Asked};
 
+pub mod asking;
 pub mod bytes;
 
 // The most statements that a question may be asked over.

@@ -1,10 +1,9 @@
 -- Rows lie inside what is lent and are whole partials, and the first row that serves answers a question.
-use Rattle.std.proofs.Common.{◌≡◌, ℕ, ◌+◌, ◌*◌, ◌<◌, ◌≤◌, List, length, get_or, drop, Some, None, Ok, Option, sym, ◌∙◌, subst, inl, inr, ⊎_elim, mul-le-mul_right, suc-mul, arith, MatchOption}
+use Rattle.std.proofs.Common.{◌≡◌, ℕ, ◌+◌, ◌*◌, ◌<◌, ◌≤◌, List, length, get_or, drop, Ok, sym, ◌∙◌, subst, inl, inr, ⊎_elim, mul-le-mul_right, suc-mul, arith}
 use Rattle.source.specs.Plans.{Whole, Of, Serves}
 use Rattle.source.specs.Asked.{Taken, Asked}
-use Rattle.source.specs.declared.Answer.{Answer}
 use Rattle.source.specs.declared.Answer.TheVariants.{Plan, Nothing}
-use Rattle.sources.specs.Rows.{row_at, Among, Decided, Listable, RowServes, FirstServing, NoneServing, GivesFirst, PutRow}
+use Rattle.sources.specs.Rows.{row_at, Among, Decided, Listable, FirstServing, NoneServing}
 use Rattle.std.proofs.lemmas.List.{length-take, length-drop, get_or-take, get_or-drop}
 use Rattle.std.proofs.lemmas.Bool.{cases_eq}
 
@@ -33,7 +32,6 @@ row_whole w n rows p l d a =
 pub first_answers :
     (w n : ℕ) (rows pins group before after : List ℕ) (i : ℕ) → Listable w n rows → Taken w pins group before → FirstServing w n rows pins group i → after ≡ row_at w rows i
     → Asked w (Of w (Among w n rows)) pins group before (Ok Plan) after
-unfolding RowServes
 first_answers w n rows pins group before after i l t f e =
     let a : Among w n rows after = (i, f.0, e) in
     (t, (a, row_whole w n rows after l.2 l.3 a), subst (Serves pins group) (sym e) f.1)
@@ -42,18 +40,5 @@ first_answers w n rows pins group before after i l t f e =
 pub none_answers :
     (w n : ℕ) (rows pins group before after : List ℕ) → Taken w pins group before → NoneServing w n rows pins group → after ≡ before
     → Asked w (Of w (Among w n rows)) pins group before (Ok Nothing) after
-unfolding RowServes
 none_answers w n rows pins group before after t f e =
     (t, λ p o s. f o.0.0 o.0.1 (subst (Serves pins group) o.0.2 s), e)
-
--- so the first row that serves, put into the place, answers the question
-pub row_answers :
-    (w n : ℕ) (rows pins group before after : List ℕ) (o : Option ℕ) (r : Answer) → Listable w n rows → Taken w pins group before
-    → MatchOption o (NoneServing w n rows pins group) (FirstServing w n rows pins group) → PutRow w rows o before r after
-    → Asked w (Of w (Among w n rows)) pins group before (Ok r) after × GivesFirst w n rows pins group (Ok r) after
-row_answers w n rows pins group before after (Some i) r l t f p =
-    subst (λ (a : Answer). Asked w (Of w (Among w n rows)) pins group before (Ok a) after × GivesFirst w n rows pins group (Ok a) after) (sym p.0)
-    (first_answers w n rows pins group before after i l t f p.1, (i, f, p.1))
-row_answers w n rows pins group before after None r l t f p =
-    subst (λ (a : Answer). Asked w (Of w (Among w n rows)) pins group before (Ok a) after × GivesFirst w n rows pins group (Ok a) after) (sym p.0)
-    (none_answers w n rows pins group before after t f p.1, f)

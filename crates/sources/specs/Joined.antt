@@ -5,14 +5,11 @@
 --   BothServing    a plan of each source that serves its half
 --   FoundBoth      such plans, joined
 --   JoiningServes  a plan of a pair that serves
---   AskedOne, AskedBoth, AskedJoining
---                  such a plan where the answer is true, else that there is none
---   Answered       what a question answers that is not refused
---   answer_of      the answer of a question that is not refused
-use Rattle.std.specs.Prelude.{◌≡◌, ℕ, ◌+◌, ◌≤◌, Bool, true, false, cond, List, ◌++◌, take, drop, MatchBool, nat_le}
-use Rattle.source.specs.Plans.{Of, Serves}
-use Rattle.source.specs.declared.Answer.{Answer}
-use Rattle.source.specs.declared.Answer.TheVariants.{Plan, Nothing}
+--   Posed          what a pair is asked that is not too wide
+--   AskedBoth      plans of both that serve are found, or there are none
+--   AskedJoining   a plan of a pair that serves is found, or there is none
+use Rattle.std.specs.Prelude.{◌≡◌, ℕ, ◌+◌, ◌≤◌, cond, List, ◌++◌, length, take, drop, Option, MatchOption, nat_le}
+use Rattle.source.specs.Plans.{UpTo, Of, Serves}
 
 -- all statements of both; 513, which says too wide, where they are over 512
 abbrev pub joined_width : ℕ → ℕ → ℕ
@@ -41,28 +38,16 @@ FoundBoth a first b second pins firstGroup secondGroup p =
 abbrev pub JoiningServes : ℕ → (List ℕ → Type 0) → ℕ → (List ℕ → Type 0) → List ℕ → List ℕ → List ℕ → Type 0
 JoiningServes a first b second pins group p = Joining a first b second p × Serves pins group p
 
--- a serving plan of a source is found, or there is none
-abbrev pub AskedOne : ℕ → (List ℕ → Type 0) → List ℕ → List ℕ → Bool → List ℕ → Type 0
-AskedOne w plan pins group answer found =
-    MatchBool answer (Serving w plan pins group found) ((p : List ℕ) → Serving w plan pins group p → ⊥)
+-- pins and a group that no source of width w refuses
+abbrev pub Posed : ℕ → List ℕ → List ℕ → Type 0
+Posed w pins group = (length pins ≡ w) × (length group ≡ w) × UpTo 2 pins × UpTo 1 group × (w ≤ 512)
 
--- plans of both sources that serve their halves are found, or there are none
-abbrev pub AskedBoth : ℕ → (List ℕ → Type 0) → ℕ → (List ℕ → Type 0) → (pins firstGroup secondGroup : List ℕ) → Bool → List ℕ → Type 0
-AskedBoth a first b second pins firstGroup secondGroup answer found =
-    MatchBool answer (FoundBoth a first b second pins firstGroup secondGroup found) ((q r : List ℕ) → BothServing a first b second pins firstGroup secondGroup q r → ⊥)
+-- plans of both sources that serve their halves are found, joined in the first bytes, or there are none
+abbrev pub AskedBoth : ℕ → (List ℕ → Type 0) → ℕ → (List ℕ → Type 0) → (pins firstGroup secondGroup : List ℕ) → Option (List ℕ) → Type 0
+AskedBoth a first b second pins firstGroup secondGroup found =
+    MatchOption found ((q r : List ℕ) → BothServing a first b second pins firstGroup secondGroup q r → ⊥) (λ p. FoundBoth a first b second pins firstGroup secondGroup (take (a + b) p))
 
--- a serving plan of a pair is found, or there is none
-abbrev pub AskedJoining : ℕ → (List ℕ → Type 0) → ℕ → (List ℕ → Type 0) → List ℕ → List ℕ → Bool → List ℕ → Type 0
-AskedJoining a first b second pins group answer found =
-    MatchBool answer (JoiningServes a first b second pins group found) ((p : List ℕ) → JoiningServes a first b second pins group p → ⊥)
-
--- a serving plan of a pair is in the place, or there is none and the place is as before
-abbrev pub Answered : ℕ → (List ℕ → Type 0) → ℕ → (List ℕ → Type 0) → List ℕ → List ℕ → List ℕ → Answer → List ℕ → Type 0
-Answered a first b second pins group before Plan after = JoiningServes a first b second pins group after
-Answered a first b second pins group before Nothing after =
-    ((p : List ℕ) → JoiningServes a first b second pins group p → ⊥) × (after ≡ before)
-
--- the answer, by whether a plan was found
-abbrev pub answer_of : Bool → Answer
-answer_of true = Plan
-answer_of false = Nothing
+-- a serving plan of a pair is found, in the first bytes, or there is none
+abbrev pub AskedJoining : ℕ → (List ℕ → Type 0) → ℕ → (List ℕ → Type 0) → List ℕ → List ℕ → Option (List ℕ) → Type 0
+AskedJoining a first b second pins group found =
+    MatchOption found ((p : List ℕ) → JoiningServes a first b second pins group p → ⊥) (λ p. JoiningServes a first b second pins group (take (a + b) p))

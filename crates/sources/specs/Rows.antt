@@ -7,10 +7,8 @@
 --   FirstServing  the first row that serves
 --   NoneServing   no row serves
 --   GivesFirst    which plan an answer gives
---   Inside        a row that is there, or none
---   PutRow        what putting a row into the place does
 --   Lending       what comes of rows that are lent
-use Rattle.std.specs.Prelude.{◌≡◌, ℕ, ◌*◌, ◌<◌, ◌≤◌, List, length, take, drop, Some, None, Ok, Err, Option, Result, slice_index}
+use Rattle.std.specs.Prelude.{◌≡◌, ℕ, ◌*◌, ◌<◌, ◌≤◌, List, length, take, drop, Ok, Err, Result, slice_index}
 use Rattle.source.specs.Plans.{Serves}
 use Rattle.source.specs.declared.Refusal.{Refusal}
 use Rattle.source.specs.declared.Answer.{Answer}
@@ -35,7 +33,7 @@ abbrev pub Listable : ℕ → ℕ → List ℕ → Type 0
 Listable w n rows = (w ≤ 512) × (n ≤ 4096) × (length rows ≡ n * w) × Decided rows
 
 -- row i serves
-unfoldable pub RowServes : ℕ → List ℕ → List ℕ → List ℕ → ℕ → Type 0
+abbrev pub RowServes : ℕ → List ℕ → List ℕ → List ℕ → ℕ → Type 0
 RowServes w rows pins group i = Serves pins group (row_at w rows i)
 
 -- row i serves, and none before it does
@@ -52,16 +50,6 @@ abbrev pub GivesFirst : ℕ → ℕ → List ℕ → List ℕ → List ℕ → R
 GivesFirst w n rows pins group (Ok Plan) p = (i : ℕ) × FirstServing w n rows pins group i × (p ≡ row_at w rows i)
 GivesFirst w n rows pins group (Ok Nothing) p = NoneServing w n rows pins group
 GivesFirst w n rows pins group (Err e) p = Unit {0}
-
--- a row number is below the number of rows
-abbrev pub Inside : ℕ → Option ℕ → Type 0
-Inside n (Some i) = i < n
-Inside n None = Unit {0}
-
--- the row in the place and the answer that says so, or the place as before
-abbrev pub PutRow : ℕ → List ℕ → Option ℕ → List ℕ → Answer → List ℕ → Type 0
-PutRow w rows (Some i) before r after = (r ≡ Plan) × (after ≡ row_at w rows i)
-PutRow w rows None before r after = (r ≡ Nothing) × (after ≡ before)
 
 -- rows that may be listed are listed from now on; any others are refused, and the listing is as before
 abbrev pub Lending : (w n : ℕ) (rows : List ℕ) (w0 n0 : ℕ) (rows0 : List ℕ) → Result Unit ListingRefusal → (w1 n1 : ℕ) (rows1 : List ℕ) → Type 0

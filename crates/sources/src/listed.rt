@@ -1,11 +1,11 @@
 // Plans that are listed, row after row, in lent memory.
-ghost use Rattle.std.specs.Prelude.{◌≡◌, ◌<◌, [], length, Decides, MatchBool, MatchOption};
+ghost use Rattle.std.specs.Prelude.{◌≡◌, ◌<◌, ◌↔◌, [], length, Decides, IfOk, IsOk, MatchOption};
 ghost use Rattle.source.specs.Plans.{Of};
 ghost use Rattle.source.specs.Asked.{Asked};
-ghost use Rattle.sources.specs.Rows.{Among, Decided, FirstServing, GivesFirst, Inside, Listable, Lending, NoneServing, PutRow, RowServes, row_at};
+ghost use Rattle.sources.specs.Rows.{Among, FirstServing, GivesFirst, Listable, Lending, NoneServing, row_at};
 
 use crate::refusal::ListingRefusal;
-use source::bytes::{refusal, serves};
+use source::bytes::{FAILS, HOLDS, check, serves};
 use source::{Answer, Refusal, Source, WIDTH_MAX};
 
 // The most plans that may be listed.
@@ -34,14 +34,23 @@ impl<'a> Listed<'a> {
         }
     }
 
+    // Lists the rows lent, if they may be listed.
+    pub fn new(width: usize, count: usize, rows: &'a [u8]) -> Result<Self, ListingRefusal>
+        ensures listable { IsOk result ↔ Listable width count rows.now }
+        ensures fields { IfOk result (λ s. (s.width ≡ width) × (s.count ≡ count) × (s.rows.now ≡ rows.now)) }
+    {
+        if listable(width, count, rows) {
+            Ok(Listed { width, count, rows })
+        } else {
+            Err(ListingRefusal::Malformed)
+        }
+    }
+
     // Lists the rows lent from now on; a refusal leaves the listing as it was.
     pub fn lend(&mut self, width: usize, count: usize, rows: &'a [u8]) -> Result<(), ListingRefusal>
         ensures { Lending width count rows.now self.old.width self.old.count self.old.rows.now result self.new.width self.new.count self.new.rows.now }
     {
-        if !listable(width, count, rows) {
-            return Err(ListingRefusal::Malformed);
-        }
-        *self = Listed { width, count, rows };
+        *self = Listed::new(width, count, rows)?;
         Ok(())
     }
 
@@ -49,12 +58,17 @@ impl<'a> Listed<'a> {
     pub fn first_serving(&self, pins: &[u8], group: &[u8]) -> Option<usize>
         ensures { MatchOption result (NoneServing self.now.width self.now.count self.now.rows.now pins.now group.now) (λ i. FirstServing self.now.width self.now.count self.now.rows.now pins.now group.now i) }
     {
-        for i in 0..self.count {
-            if self.row_serves(i, pins, group) {
-                return Some(i);
-            }
-        }
-        None
+        (0..self.count).find(|&i| serves(pins, group, self.row(i)))
+    }
+
+    // Row i.
+    fn row(&self, i: usize) -> &[u8]
+        requires { i < self.now.count }
+        ensures value { result.now ≡ row_at self.now.width self.now.rows.now i }
+        ensures len { length result.now ≡ self.now.width }
+    {
+        let from = i * self.width;
+        &self.rows[from..from + self.width]
     }
 }
 
@@ -72,45 +86,12 @@ impl Source for Listed<'_> {
         ensures asked { Asked self.now.width (Of self.now.width (Among self.now.width self.now.count self.now.rows.now)) pins.now group.now place.old result place.new }
         ensures gives_first { GivesFirst self.now.width self.now.count self.now.rows.now pins.now group.now result place.new }
     {
-        if let Some(cause) = refusal(self.width, pins, group, place) {
-            return Err(cause);
-        }
-        Ok(self.put_row(self.first_serving(pins, group), place))
-    }
-}
-
-impl Listed<'_> {
-    // Row i.
-    fn row(&self, i: usize) -> &[u8]
-        requires { i < self.now.count }
-        ensures value { result.now ≡ row_at self.now.width self.now.rows.now i }
-        ensures len { length result.now ≡ self.now.width }
-    {
-        let from = i * self.width;
-        &self.rows[from..from + self.width]
-    }
-
-    // Whether row i agrees with the pins and meets the group.
-    fn row_serves(&self, i: usize, pins: &[u8], group: &[u8]) -> bool
-        requires { i < self.now.count }
-        ensures { MatchBool result (RowServes self.now.width self.now.rows.now pins.now group.now i) (RowServes self.now.width self.now.rows.now pins.now group.now i → ⊥) }
-    {
-        serves(pins, group, self.row(i))
-    }
-
-    // Puts the row into the place, if there is one.
-    fn put_row(&self, row: Option<usize>, place: &mut [u8]) -> Answer
-        requires inside { Inside self.now.count row }
-        requires place { length place.old ≡ self.now.width }
-        ensures { PutRow self.now.width self.now.rows.now row place.old result place.new }
-    {
-        match row {
-            Some(i) => {
-                place.copy_from_slice(self.row(i));
-                Answer::Plan
-            }
-            None => Answer::Nothing,
-        }
+        check(self.width, pins, group, place)?;
+        let Some(i) = self.first_serving(pins, group) else {
+            return Ok(Answer::Nothing);
+        };
+        place.copy_from_slice(self.row(i));
+        Ok(Answer::Plan)
     }
 }
 
@@ -118,26 +99,8 @@ impl Listed<'_> {
 fn listable(width: usize, count: usize, rows: &[u8]) -> bool
     ensures { Decides result (Listable width count rows.now) }
 {
-    if width > WIDTH_MAX {
-        return false;
-    }
-    if count > PLANS_MAX {
-        return false;
-    }
-    if rows.len() != count * width {
-        return false;
-    }
-    decided(rows)
-}
-
-// Whether each byte is 1 or 2.
-fn decided(bytes: &[u8]) -> bool
-    ensures { Decides result (Decided bytes.now) }
-{
-    for b in bytes {
-        if *b == 0 || *b > 2 {
-            return false;
-        }
-    }
-    true
+    width <= WIDTH_MAX
+        && count <= PLANS_MAX
+        && rows.len() == count * width
+        && rows.iter().all(|&byte| byte == HOLDS || byte == FAILS)
 }

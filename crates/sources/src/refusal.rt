@@ -5,15 +5,13 @@ ghost use Rattle.sources.specs.Numbers.{number_of};
 #[derive(Clone, Copy, Debug, PartialEq, Eq)]
 pub enum ListingRefusal {
     // too many statements or plans, too few or too many bytes, or a byte that is neither 1 nor 2
-    Malformed,
+    Malformed = 27,
 }
 
 impl ListingRefusal {
     pub fn number(self) -> u8
         ensures { result ≡ number_of self }
     {
-        match self {
-            ListingRefusal::Malformed => 27,
-        }
+        self as u8
     }
 }

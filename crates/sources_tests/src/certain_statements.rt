@@ -7,8 +7,7 @@ use std::test::Fail;
 // Two plans that exclude each other's first statement, and have the third in common.
 #[test]
 fn of_listed_plans(rt: HostRuntime) -> Result<(), Fail> {
-    let mut plans = Listed::none();
-    plans.lend(3, 2, &[1, 2, 1, 2, 1, 1])?;
+    let plans = Listed::new(3, 2, &[1, 2, 1, 2, 1, 1])?;
     let mut group = [0u8; 3];
     let mut place = [0u8; 3];
     assert_eq!(rt;
@@ -37,10 +36,8 @@ fn of_listed_plans(rt: HostRuntime) -> Result<(), Fail> {
 // What holds in every plan of the second half holds in every joining.
 #[test]
 fn of_a_pair(rt: HostRuntime) -> Result<(), Fail> {
-    let mut first = Listed::none();
-    first.lend(1, 2, &[1, 2])?;
-    let mut second = Listed::none();
-    second.lend(1, 1, &[1])?;
+    let first = Listed::new(1, 2, &[1, 2])?;
+    let second = Listed::new(1, 1, &[1])?;
     let pair = Pair::new(first, second);
     let mut group = [0u8; 2];
     let mut place = [0u8; 2];

@@ -7,8 +7,7 @@ use std::test::Fail;
 #[test]
 fn gives_the_first_row(rt: HostRuntime) -> Result<(), Fail> {
     let rows = [1, 1, 2, 1, 1, 2, 2, 2];
-    let mut plans = Listed::none();
-    plans.lend(2, 4, &rows)?;
+    let plans = Listed::new(2, 4, &rows)?;
     let mut place = [0u8; 2];
     assert_eq!(rt;
         plans.question(&[0, 0], &[1, 1], &mut place),
@@ -22,8 +21,7 @@ fn gives_the_first_row(rt: HostRuntime) -> Result<(), Fail> {
 #[test]
 fn gives_none(rt: HostRuntime) -> Result<(), Fail> {
     let rows = [1, 2, 1, 1];
-    let mut plans = Listed::none();
-    plans.lend(2, 2, &rows)?;
+    let plans = Listed::new(2, 2, &rows)?;
     let mut place = [7, 9];
     assert_eq!(rt;
         plans.question(&[0, 0], &[1, 0], &mut place),
@@ -42,8 +40,7 @@ fn gives_none(rt: HostRuntime) -> Result<(), Fail> {
 #[test]
 fn empty_group(rt: HostRuntime) -> Result<(), Fail> {
     let rows = [1, 1];
-    let mut plans = Listed::none();
-    plans.lend(2, 1, &rows)?;
+    let plans = Listed::new(2, 1, &rows)?;
     let mut place = [0u8; 2];
     assert_eq!(rt;
         plans.question(&[1, 0], &[0, 0], &mut place),
@@ -70,8 +67,7 @@ fn no_statements(rt: HostRuntime) -> Result<(), Fail> {
 #[test]
 fn refusals_in_order(rt: HostRuntime) -> Result<(), Fail> {
     let rows = [1, 1];
-    let mut plans = Listed::none();
-    plans.lend(2, 1, &rows)?;
+    let plans = Listed::new(2, 1, &rows)?;
     let mut place = [5, 6];
     assert_eq!(rt;
         plans.question(&[3, 0, 0], &[2, 0], &mut place),
@@ -107,8 +103,7 @@ fn numbers(rt: HostRuntime) {
 fn refused_rows(rt: HostRuntime) -> Result<(), Fail> {
     let rows = [2, 1];
     let long = [1u8; 513];
-    let mut plans = Listed::none();
-    plans.lend(2, 1, &rows)?;
+    let mut plans = Listed::new(2, 1, &rows)?;
     assert_eq!(rt;
         plans.lend(513, 1, &long),
         Err(ListingRefusal::Malformed),

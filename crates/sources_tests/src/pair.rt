@@ -6,10 +6,8 @@ use std::test::Fail;
 // A group may mark statements of one half only; the other half then only agrees with its pins.
 #[test]
 fn one_half_is_marked(rt: HostRuntime) -> Result<(), Fail> {
-    let mut first = Listed::none();
-    first.lend(2, 2, &[1, 1, 2, 1])?;
-    let mut second = Listed::none();
-    second.lend(1, 2, &[1, 2])?;
+    let first = Listed::new(2, 2, &[1, 1, 2, 1])?;
+    let second = Listed::new(1, 2, &[1, 2])?;
     let pair = Pair::new(first, second);
     assert_eq!(rt; pair.width(), 3);
     let mut place = [0u8; 3];
@@ -34,10 +32,8 @@ fn one_half_is_marked(rt: HostRuntime) -> Result<(), Fail> {
 // Both halves are marked, and only one of them can fail at a marked statement.
 #[test]
 fn one_half_can_fail(rt: HostRuntime) -> Result<(), Fail> {
-    let mut first = Listed::none();
-    first.lend(1, 1, &[1])?;
-    let mut second = Listed::none();
-    second.lend(1, 2, &[1, 2])?;
+    let first = Listed::new(1, 1, &[1])?;
+    let second = Listed::new(1, 2, &[1, 2])?;
     let pair = Pair::new(first, second);
     let mut place = [0u8; 2];
     assert_eq!(rt;
@@ -51,10 +47,8 @@ fn one_half_can_fail(rt: HostRuntime) -> Result<(), Fail> {
 // The same with the halves the other way round.
 #[test]
 fn other_half_can_fail(rt: HostRuntime) -> Result<(), Fail> {
-    let mut first = Listed::none();
-    first.lend(1, 2, &[1, 2])?;
-    let mut second = Listed::none();
-    second.lend(1, 1, &[1])?;
+    let first = Listed::new(1, 2, &[1, 2])?;
+    let second = Listed::new(1, 1, &[1])?;
     let pair = Pair::new(first, second);
     let mut place = [0u8; 2];
     assert_eq!(rt;
@@ -68,10 +62,8 @@ fn other_half_can_fail(rt: HostRuntime) -> Result<(), Fail> {
 // The first half is answered and the second is not: the place is as before.
 #[test]
 fn place_is_put_back(rt: HostRuntime) -> Result<(), Fail> {
-    let mut first = Listed::none();
-    first.lend(1, 1, &[2])?;
-    let mut second = Listed::none();
-    second.lend(1, 1, &[1])?;
+    let first = Listed::new(1, 1, &[2])?;
+    let second = Listed::new(1, 1, &[1])?;
     let pair = Pair::new(first, second);
     let mut place = [8, 9];
     assert_eq!(rt;
@@ -106,10 +98,8 @@ fn place_is_put_back(rt: HostRuntime) -> Result<(), Fail> {
 #[test]
 fn as_wide_as_may_be(rt: HostRuntime) -> Result<(), Fail> {
     let row = [1u8; 256];
-    let mut first = Listed::none();
-    first.lend(256, 1, &row)?;
-    let mut second = Listed::none();
-    second.lend(256, 1, &row)?;
+    let first = Listed::new(256, 1, &row)?;
+    let second = Listed::new(256, 1, &row)?;
     let pair = Pair::new(first, second);
     assert_eq!(rt; pair.width(), 512);
     let mut place = [0u8; 512];
@@ -125,10 +115,8 @@ fn as_wide_as_may_be(rt: HostRuntime) -> Result<(), Fail> {
 #[test]
 fn too_wide(rt: HostRuntime) -> Result<(), Fail> {
     let row = [1u8; 257];
-    let mut first = Listed::none();
-    first.lend(256, 1, &row[0..256])?;
-    let mut second = Listed::none();
-    second.lend(257, 1, &row)?;
+    let first = Listed::new(256, 1, &row[0..256])?;
+    let second = Listed::new(257, 1, &row)?;
     let pair = Pair::new(first, second);
     assert_eq!(rt; pair.width(), 513);
     let none = [0u8; 513];
@@ -149,10 +137,8 @@ fn too_wide(rt: HostRuntime) -> Result<(), Fail> {
 #[test]
 fn still_too_wide(rt: HostRuntime) -> Result<(), Fail> {
     let row = [1u8; 257];
-    let mut first = Listed::none();
-    first.lend(256, 1, &row[0..256])?;
-    let mut second = Listed::none();
-    second.lend(257, 1, &row)?;
+    let first = Listed::new(256, 1, &row[0..256])?;
+    let second = Listed::new(257, 1, &row)?;
     let pair = Pair::new(first, second);
     let wider = Pair::new(pair, Listed::none());
     assert_eq!(rt; wider.width(), 513);

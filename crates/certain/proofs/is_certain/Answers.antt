@@ -1,20 +1,8 @@
-use Rattle.std.proofs.Common.{Bool, length, Result, sym, subst}
-use Rattle.source.specs.Plans.{Of}
-use Rattle.source.specs.declared.Refusal.{Refusal}
-use Rattle.certain.specs.Certain.{Told, only_mark}
-use Rattle.certain.proofs.Marking.{question_tells}
+use Rattle.std.proofs.Common.{length}
+use Rattle.certain.proofs.Marking.{answer_tells}
 use Rattle.certain.proofs.is_certain.Goals as goal
 
-pub returns : goal.returns
-returns g c =
-    record {
-      answer =
-          subst
-          (λ (r : Result Bool Refusal).
-          Told (g.S.Source.wide c.args.source.now) (Of (g.S.Source.wide c.args.source.now) (g.S.Source.plan c.args.source.now)) c.args.pins.now c.args.statement
-          (only_mark (length c.args.group.now) c.args.statement) c.args.place.now r c.question.new.place)
-          (sym c.told_by.ensures)
-          (question_tells (g.S.Source.wide c.args.source.now) (g.S.Source.plan c.args.source.now) c.args.pins.now c.mark_only.new.group c.args.place.now c.question.new.place
-          (length c.args.group.now) c.args.statement c.question.result c.mark_only.ensures c.question.ensures);
-      group = c.mark_only.ensures;
-    }
+pub returns-clause-answer : goal.returns-clause-answer
+returns-clause-answer g c =
+    answer_tells (g.S.Source.wide c.args.source.now) (g.S.Source.plan c.args.source.now) c.args.pins.now c.mark_only.new.group c.args.place.now c.question.new.place
+    (length c.args.group.now) c.args.statement c.in_ok-question.field-0 c.eq.result c.mark_only.ensures c.in_ok-question.ensures (λ e. rw e at c.eq.ensures) (λ e. rw e at c.eq.ensures)

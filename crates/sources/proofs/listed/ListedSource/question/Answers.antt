@@ -1,9 +1,13 @@
-use Rattle.sources.proofs.Listing.{row_answers}
+use Rattle.std.proofs.Common.{refl, rules}
+use Rattle.sources.proofs.Listing.{first_answers, none_answers}
 use Rattle.sources.proofs.listed.ListedSource.question.Goals as goal
 
-pub returns : goal.returns
-returns c =
-    let all =
-    row_answers c.args.self.now.width c.args.self.now.count c.args.self.now.rows.now c.args.pins.now c.args.group.now c.args.place.now c.put_row.new.place
-    c.first_serving.result c.put_row.result c.args.self.now.listable c.in_default.ensures.cause c.first_serving.ensures c.put_row.ensures in
-    record { asked = all.0; gives_first = all.1 }
+pub returns-in_default-clause-asked : goal.returns-in_default-clause-asked
+returns-in_default-clause-asked c =
+    let s = c.args.self.now in
+    none_answers s.width s.count s.rows.now c.args.pins.now c.args.group.now c.args.place.now c.args.place.now c.in_ok-check.ensures.cause c.in_default.ensures refl
+
+pub returns-clause-asked : goal.returns-clause-asked
+returns-clause-asked c =
+    let s = c.args.self.now in
+    first_answers s.width s.count s.rows.now c.args.pins.now c.args.group.now c.args.place.now c.copy_from_slice.new.self c.in-Some.i s.listable c.in_ok-check.ensures.cause c.in-Some.ensures (search rules)

@@ -1,18 +1,21 @@
-use Rattle.sources.proofs.Widths.{pair_taken, zeros_cut, pair_answers}
+use Rattle.std.proofs.Common.{ℕ, take, sym, ap, ◌∙◌, subst, refl}
+use Rattle.source.specs.Asked.{Taken}
+use Rattle.sources.specs.Joined.{JoiningServes}
+use Rattle.sources.proofs.Widths.{joined_narrow, joining_answers}
 use Rattle.sources.proofs.pair.PairSource.question.Goals as goal
 
-pub answer-requires : goal.answer-requires
-answer-requires g c =
-    let t = pair_taken (g.F.Source.wide c.args.self.now.first) (g.S.Source.wide c.args.self.now.second) c.width-width.result
-    c.args.pins.now c.args.group.now c.args.place.now c.width-width.ensures.value c.in_default.ensures.cause in
-    record {
-      taken = t.1;
-      none = zeros_cut 512 c.width-width.result _ c.zeros-none.result c.zeros-none.ensures c.in_default.ensures.cause.3 t.0;
-      found = (zeros_cut 512 c.width-width.result _ c.zeros-found.result c.zeros-found.ensures c.in_default.ensures.cause.3 t.0).0;
-    }
+pub returns-in_default : goal.returns-in_default
+returns-in_default g c =
+    let t = subst (λ (w : ℕ). Taken w c.args.pins.now c.args.group.now c.args.place.now) c.width-width.ensures.value c.in_ok-check.ensures.cause in
+    (t, λ p o s. c.in_default.ensures p (o.0, s), refl)
 
 pub returns : goal.returns
 returns g c =
-    pair_answers (g.F.Source.wide c.args.self.now.first) (g.F.Source.plan c.args.self.now.first) (g.S.Source.wide c.args.self.now.second) (g.S.Source.plan c.args.self.now.second)
-    c.width-width.result c.args.pins.now c.args.group.now c.args.place.now c.answer.new.place c.answer.result
-    c.width-width.ensures.value c.in_default.ensures.cause c.answer.ensures
+    let s = c.args.self.now in
+    let t = subst (λ (w : ℕ). Taken w c.args.pins.now c.args.group.now c.args.place.now) c.width-width.ensures.value c.in_ok-check.ensures.cause in
+    let all = c.width-width.ensures.value ∙ (joined_narrow (g.F.Source.wide s.first) (g.S.Source.wide s.second) t.3).0 in
+    joining_answers (g.F.Source.wide s.first) (g.F.Source.plan s.first) (g.S.Source.wide s.second) (g.S.Source.plan s.second)
+    c.args.pins.now c.args.group.now c.args.place.now c.copy_from_slice.new.self t
+    (subst
+    (JoiningServes (g.F.Source.wide s.first) (g.F.Source.plan s.first) (g.S.Source.wide s.second) (g.S.Source.plan s.second) c.args.pins.now c.args.group.now)
+    (sym (c.copy_from_slice.ensures.after ∙ ap (λ n. take n c.in-Some.plan) all)) c.in-Some.ensures)
