@@ -1,5 +1,5 @@
 -- A joining of two plans serves exactly where its halves do, each its half of the pins and of a group that is shared out.
-use Rattle.std.proofs.Common.{◌≡◌, append_assoc, ℕ, ◌+◌, ◌-◌, ◌<◌, ◌≤◌, ◌⊎◌, List, ◌++◌, length, get_or, take, drop, replicate, Some, None, Option, MatchOption, sym, ap, ◌∙◌, subst, refl, inl, inr, ⊎_elim, arith}
+use Rattle.std.proofs.Common.{◌≡◌, append_assoc, ℕ, ◌+◌, ◌-◌, ◌<◌, ◌≤◌, ◌⊎◌, List, ◌++◌, length, get_or, take, drop, replicate, Some, None, Option, MatchOption, sym, ap, ◌∙◌, subst, inl, inr, ⊎_elim, arith}
 use Rattle.std.proofs.lemmas.List.{length-take, length-append, get_or-take, get_or_past, length-replicate, get_or-replicate, get_or_append_left, get_or-append_right, get_or-append-add, take-append-drop, take_at}
 use Rattle.std.proofs.lemmas.Bool.{cases_lt}
 use Rattle.source.specs.Plans.{Whole, Of, Agrees, Marks, FailsMarked, Meets, Serves}
@@ -11,12 +11,15 @@ pub blank_no_marks : (g : List ℕ) → Blank g → Marks g → ⊥
 blank_no_marks g z m = let e = z m.0 in let f : get_or g m.0 0 ≡ 1 = m.1 in omega arith
 
 pub blank_zeros : (n : ℕ) → Blank (replicate n 0)
-blank_zeros n k =
-    ⊎_elim (λ (h : k < n). get_or-replicate n k 0 0 h) (λ (h : n ≤ k). get_or_past (replicate n 0) k 0 (omega (arith, length-replicate {A = ℕ} n 0))) (cases_lt k n)
+blank_zeros n k = grind (arith, get_or-replicate, get_or_past, length-replicate)
+
+-- a group that marks nothing, cut
+pub blank_take : (n : ℕ) (g : List ℕ) → Blank g → Blank (take n g)
+blank_take n g z k = let e = z k in grind (arith, get_or-take, get_or_past, length-take)
 
 -- a byte that is not 0 is inside
 pub inside : (xs : List ℕ) (k : ℕ) → (get_or xs k 0 ≡ 0 → ⊥) → k < length xs
-inside xs k n = ⊎_elim (λ (h : k < length xs). h) (λ (h : length xs ≤ k). absurd (n (get_or_past xs k 0 h))) (cases_lt k (length xs))
+inside xs k n = grind (arith, get_or_past)
 
 -- what is read behind the first list is the second's
 pub at_second : (xs ys : List ℕ) (n k : ℕ) → length xs ≡ n → get_or (xs ++ ys) (n + k) 0 ≡ get_or ys k 0
@@ -25,56 +28,47 @@ at_second xs ys n k l = grind (arith, get_or-append_right)
 pub agrees_first : (fp sp q r : List ℕ) → length q ≡ length fp → Agrees (fp ++ sp) (q ++ r) → Agrees fp q
 agrees_first fp sp q r l s k n =
     let i = inside fp k n in
-    let e = get_or_append_left fp sp 0 k i in
-    sym (get_or_append_left q r 0 k (omega arith)) ∙ s k (λ z. n (sym e ∙ z)) ∙ e
+    let t = s k in
+    grind (arith, get_or_append_left)
 
 pub agrees_second : (fp sp q r : List ℕ) → length q ≡ length fp → Agrees (fp ++ sp) (q ++ r) → Agrees sp r
 agrees_second fp sp q r l s k n =
-    let e = get_or-append-add fp sp k 0 in
-    sym (at_second q r (length fp) k l) ∙ s (length fp + k) (λ z. n (sym e ∙ z)) ∙ e
+    let t = s (length fp + k) in
+    grind (arith, at_second)
 
 pub agrees_both : (fp sp q r : List ℕ) → length q ≡ length fp → Agrees fp q → Agrees sp r → Agrees (fp ++ sp) (q ++ r)
 agrees_both fp sp q r l s t k n =
-    ⊎_elim
-    (λ (h : k < length fp).
-    let e = get_or_append_left fp sp 0 k h in
-    get_or_append_left q r 0 k (omega arith) ∙ s k (λ z. n (e ∙ z)) ∙ sym e)
-    (λ (h : length fp ≤ k).
-    let e = get_or-append_right fp sp _ k 0 refl h in
-    get_or-append_right q r _ k 0 l h ∙ t (k - length fp) (λ z. n (e ∙ z)) ∙ sym e)
-    (cases_lt k (length fp))
+    let u = s k in
+    let v = t (k - length fp) in
+    grind (arith, get_or_append_left, get_or-append_right)
 
 -- a mark of either part is one of the whole
 pub marks_first : (fg sg : List ℕ) → Marks fg → Marks (fg ++ sg)
-marks_first fg sg m =
-    let i = inside fg m.0 (λ e. let f : get_or fg m.0 0 ≡ 1 = m.1 in omega arith) in
-    (m.0, get_or_append_left fg sg 0 m.0 i ∙ m.1)
+marks_first fg sg m = (m.0, grind (arith, inside, get_or_append_left))
 
 pub marks_second : (fg sg : List ℕ) → Marks sg → Marks (fg ++ sg)
 marks_second fg sg m = (length fg + m.0, get_or-append-add fg sg m.0 0 ∙ m.1)
 
-pub marks_either : (fg sg : List ℕ) → Marks (fg ++ sg) → Marks fg ⊎ Marks sg
-marks_either fg sg m =
-    ⊎_elim
-    (λ (h : m.0 < length fg). inl (m.0, sym (get_or_append_left fg sg 0 m.0 h) ∙ m.1))
-    (λ (h : length fg ≤ m.0). inr (m.0 - length fg, sym (get_or-append_right fg sg _ m.0 0 refl h) ∙ m.1))
-    (cases_lt m.0 (length fg))
-
 -- and so of a marked statement that fails
 pub fails_first : (fg sg q r : List ℕ) → length q ≡ length fg → FailsMarked fg q → FailsMarked (fg ++ sg) (q ++ r)
-fails_first fg sg q r l f =
-    let i = inside fg f.0 (λ e. let x : get_or fg f.0 0 ≡ 1 = f.1 in omega arith) in
-    (f.0, get_or_append_left fg sg 0 f.0 i ∙ f.1, get_or_append_left q r 0 f.0 (omega arith) ∙ f.2)
+fails_first fg sg q r l f = (f.0, grind (arith, inside, get_or_append_left), grind (arith, inside, get_or_append_left))
 
 pub fails_second : (fg sg q r : List ℕ) → length q ≡ length fg → FailsMarked sg r → FailsMarked (fg ++ sg) (q ++ r)
 fails_second fg sg q r l f = (length fg + f.0, get_or-append-add fg sg f.0 0 ∙ f.1, at_second q r (length fg) f.0 l ∙ f.2)
 
+-- a mark of the whole is one of either part, and a marked statement of the whole that fails is one of either plan
+pub marks_either : (fg sg : List ℕ) → Marks (fg ++ sg) → Marks fg ⊎ Marks sg
+marks_either fg sg m =
+    ⊎_elim
+    (λ (h : m.0 < length fg). inl (m.0, grind (arith, get_or_append_left)))
+    (λ (h : length fg ≤ m.0). inr (m.0 - length fg, grind (arith, get_or-append_right)))
+    (cases_lt m.0 (length fg))
+
 pub fails_either : (fg sg q r : List ℕ) → length q ≡ length fg → FailsMarked (fg ++ sg) (q ++ r) → FailsMarked fg q ⊎ FailsMarked sg r
 fails_either fg sg q r l f =
     ⊎_elim
-    (λ (h : f.0 < length fg). inl (f.0, sym (get_or_append_left fg sg 0 f.0 h) ∙ f.1, sym (get_or_append_left q r 0 f.0 (omega arith)) ∙ f.2))
-    (λ (h : length fg ≤ f.0).
-    inr (f.0 - length fg, sym (get_or-append_right fg sg _ f.0 0 refl h) ∙ f.1, sym (get_or-append_right q r _ f.0 0 l h) ∙ f.2))
+    (λ (h : f.0 < length fg). inl (f.0, grind (arith, get_or_append_left), grind (arith, get_or_append_left)))
+    (λ (h : length fg ≤ f.0). inr (f.0 - length fg, grind (arith, get_or-append_right), grind (arith, get_or-append_right)))
     (cases_lt f.0 (length fg))
 
 -- two whole partials joined are one
@@ -84,10 +78,9 @@ whole_both a b q r u v =
     let lr : length r ≡ b = v.0 in (
       simp length-append (omega arith),
       λ k h.
-          ⊎_elim
-          (λ (i : k < a). subst (λ (n : ℕ). (n ≡ 1) ⊎ (n ≡ 2)) (sym (get_or_append_left q r 0 k (omega arith))) (u.1 k i))
-          (λ (i : a ≤ k). subst (λ (n : ℕ). (n ≡ 1) ⊎ (n ≡ 2)) (sym (get_or-append_right q r a k 0 lq i)) (v.1 (k - a) (omega arith)))
-          (cases_lt k a),
+          let s = u.1 k in
+          let t = v.1 (k - a) in
+          grind (arith, get_or_append_left, get_or-append_right),
     )
 
 -- where the first plan meets its part of the group, and that marks a statement or the second part marks none, the two serve
@@ -209,8 +202,3 @@ share_either a first b second pins group fg sg firstNone secondNone None None c 
     (λ (f : Meets fg q). e q r ((u.0, (u.1, f)), (v.0, (v.1, λ x. absurd (blank_no_marks secondNone z x)))))
     (λ (f : Meets sg r). h q r ((u.0, (u.1, λ x. absurd (blank_no_marks firstNone y x))), (v.0, (v.1, f))))
     (meets_either fg sg q r n m.0 s))
-
--- a group that marks nothing, cut
-pub blank_take : (n : ℕ) (g : List ℕ) → Blank g → Blank (take n g)
-blank_take n g z k =
-    ⊎_elim (λ (h : k < n). get_or-take n g k 0 h ∙ z k) (λ (h : n ≤ k). get_or_past (take n g) k 0 (simp length-take (omega arith))) (cases_lt k n)

@@ -1,31 +1,27 @@
 -- Rows lie inside what is lent and are whole partials, and the first row that serves answers a question.
-use Rattle.std.proofs.Common.{◌≡◌, ℕ, ◌+◌, ◌*◌, ◌<◌, ◌≤◌, List, length, get_or, drop, Ok, sym, ◌∙◌, subst, inl, inr, ⊎_elim, mul-le-mul_right, suc-mul, arith}
+use Rattle.std.proofs.Common.{◌≡◌, ℕ, ◌+◌, ◌*◌, ◌<◌, ◌≤◌, List, length, get_or, drop, Ok, sym, ◌∙◌, subst, mul-le-mul_right, suc-mul, arith}
 use Rattle.source.specs.Plans.{Whole, Of, Serves}
 use Rattle.source.specs.Asked.{Taken, Asked}
 use Rattle.source.specs.declared.Answer.TheVariants.{Plan, Nothing}
 use Rattle.sources.specs.Rows.{row_at, Among, Decided, Listable, FirstServing, NoneServing}
 use Rattle.std.proofs.lemmas.List.{length-take, length-drop, get_or-take, get_or-drop}
-use Rattle.std.proofs.lemmas.Bool.{cases_eq}
 
 pub row_inside : (w n i : ℕ) → i < n → i * w + w ≤ n * w
 row_inside w n i h = let a = mul-le-mul_right w h in let b = suc-mul i w in omega arith
 
-pub row_length : (w n : ℕ) (rows : List ℕ) (i : ℕ) → length rows ≡ n * w → i < n → length (row_at w rows i) ≡ w
-row_length w n rows i l h =
-    let a = row_inside w n i h in
-    simp (length-take, length-drop) (omega arith)
+-- byte k of row i
+pub row_byte : (w : ℕ) (rows : List ℕ) (i k : ℕ) → k < w → get_or (row_at w rows i) k 0 ≡ get_or rows (i * w + k) 0
+row_byte w rows i k h = get_or-take w (drop (i * w) rows) k 0 h ∙ get_or-drop (i * w) rows k 0
 
 pub row_whole : (w n : ℕ) (rows p : List ℕ) → length rows ≡ n * w → Decided rows → Among w n rows p → Whole w p
 row_whole w n rows p l d a =
-    subst (Whole w) (sym a.2) (
-      row_length w n rows a.0 l a.1,
+    let inside = row_inside w n a.0 a.1 in
+    rw a.2 (
+      simp (length-take, length-drop) (omega arith),
       λ k h.
-          let x = row_inside w n a.0 a.1 in
-          let e : get_or (row_at w rows a.0) k 0 ≡ get_or rows (a.0 * w + k) 0 = get_or-take w (drop (a.0 * w) rows) k 0 h ∙ get_or-drop (a.0 * w) rows k 0 in
+          let e = row_byte w rows a.0 k h in
           let y = d (a.0 * w + k) (omega arith) in
-          let y0 : 1 ≤ get_or rows (a.0 * w + k) 0 = y.0 in
-          let y1 : get_or rows (a.0 * w + k) 0 ≤ 2 = y.1 in
-          ⊎_elim (λ (z : get_or rows (a.0 * w + k) 0 ≡ 1). inl (e ∙ z)) (λ (z : get_or rows (a.0 * w + k) 0 ≡ 1 → ⊥). inr (omega arith)) (cases_eq (get_or rows (a.0 * w + k) 0) 1),
+          grind arith,
     )
 
 -- the first row that serves, copied into the place, is what a question asks for
