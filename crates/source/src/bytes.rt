@@ -7,7 +7,7 @@ ghost use Rattle.source.specs.declared.Refusal.{Refusal as Cause};
 use crate::{Refusal, WIDTH_MAX};
 
 // The bytes of a partial. A plan has the last two only, and a pin is one of them.
-// Stays numbers: partials, pins, groups and plans are lent as bytes, and a byte over the largest is refused.
+// Stays: partials, pins, groups and plans are lent as bytes, so these are numbers, and a byte over the largest is refused.
 pub const UNDECIDED: u8 = 0;
 
 pub const HOLDS: u8 = 1;

@@ -12,6 +12,7 @@ use source::{Answer, Refusal, Source, WIDTH_MAX};
 pub const PLANS_MAX: usize = 4096;
 
 // `count` plans of `width` bytes each.
+// Stays: the rows are lent as bytes, and at width 0 only the count says how many plans there are.
 #[derive(Drop)]
 pub struct Listed<'a> {
     width: usize,
