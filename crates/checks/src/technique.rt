@@ -1,30 +1,45 @@
-// The techniques of settling by their names, and the ways of a pin.
-ghost use Rattle.std.specs.Prelude.{◌≡◌, MatchBool};
-ghost use Rattle.checks.specs.Named.{Way, limit_of};
+// The techniques of settling, by their names.
+ghost use Rattle.std.specs.Prelude.{◌≡◌};
+ghost use Rattle.checks.specs.Named.{technique_of, limit_by};
 
-use table::line::{FAILS, HOLDS};
+use std::str::FromStr;
 use uses::SheetRefusal;
 
-// How many of the lowest open candidates the technique marks, at most.
-pub fn limit_of(technique: &str, size: usize, width: usize) -> Result<usize, SheetRefusal>
-    ensures { result ≡ limit_of technique.now size width }
-{
-    match technique {
-        "over" => Ok(width),
-        "under" => Ok(1),
-        "chunk" => {
-            if size == 0 {
-                return Err(SheetRefusal::Group);
-            }
-            Ok(size)
+#[derive(Clone, Copy, Debug, PartialEq, Eq)]
+pub enum Technique {
+    // all open candidates
+    Over,
+    // the lowest one
+    Under,
+    // the lowest ones up to the size
+    Chunk,
+}
+
+impl FromStr for Technique {
+    type Err = SheetRefusal;
+
+    ghost from_str_gives = { λ name r. r ≡ technique_of name };
+
+    fn from_str(name: &str) -> Result<Self, SheetRefusal> {
+        match name {
+            "over" => Ok(Technique::Over),
+            "under" => Ok(Technique::Under),
+            "chunk" => Ok(Technique::Chunk),
+            _ => Err(SheetRefusal::Name),
         }
-        _ => Err(SheetRefusal::Name),
     }
 }
 
-// Whether it is a way to pin.
-pub fn is_way(way: u8) -> bool
-    ensures { MatchBool result (Way way) (Way way → ⊥) }
-{
-    way == HOLDS || way == FAILS
+impl Technique {
+    // How many of the lowest open candidates it marks, at most.
+    pub fn limit(self, size: usize, width: usize) -> Result<usize, SheetRefusal>
+        ensures { result ≡ limit_by self size width }
+    {
+        match self {
+            Technique::Over => Ok(width),
+            Technique::Under => Ok(1),
+            Technique::Chunk if size == 0 => Err(SheetRefusal::Group),
+            Technique::Chunk => Ok(size),
+        }
+    }
 }

@@ -3,7 +3,7 @@
 
 use runs::run::run;
 use runs::{Call, Reply};
-use show::{print_call, print_reply};
+use show::{Answer, Asked};
 use sources::Listed;
 use std::io;
 
@@ -39,11 +39,10 @@ fn main(rt: HostRuntime) -> io::Result<()> {
         Call::Tell(6),
         Call::Tally,
     ];
-    let mut replies = [Reply::Done; 19];
+    let mut replies = [Ok(Reply::Done); 19];
     let (_, made) = run(plans, &calls, &mut replies);
-    for i in 0..made {
-        print_call(rt, &calls[i])?;
-        print_reply(rt, replies[i])?;
+    for (call, reply) in calls.iter().zip(&replies).take(made) {
+        println!(rt; "{} -> {}", Asked(call), Answer(reply))?;
     }
     Ok(())
 }

@@ -1,115 +1,72 @@
 // The calls and the answers of the day in an office's words.
 use runs::{Call, Reply};
-use sheet::{SheetRefusal, Word};
-use std::io;
+use sheet::{SheetRefusal, Way};
+use source::bytes::MARKED;
+use std::fmt;
 
-// What each statement says of tomorrow.
-fn statement_name(statement: usize) -> &'static str {
-    match statement {
-        0 => "Alma at the north quay",
-        1 => "Alma at the south quay",
-        2 => "Bris at the north quay",
-        3 => "Bris at the south quay",
-        4 => "Tern at the slip",
-        5 => "Alma in port",
-        _ => "a berth that is not in the book",
+// A statement of tomorrow, by its number.
+#[derive(Clone, Copy)]
+struct Statement(usize);
+
+impl fmt::Display for Statement {
+    fn fmt<W: fmt::Write>(&self, f: &mut fmt::Formatter<W>) -> fmt::Result {
+        f.write_str(match self.0 {
+            0 => "Alma at the north quay",
+            1 => "Alma at the south quay",
+            2 => "Bris at the north quay",
+            3 => "Bris at the south quay",
+            4 => "Tern at the slip",
+            5 => "Alma in port",
+            _ => "a berth that is not in the book",
+        })
     }
 }
 
-fn way_name(way: u8) -> &'static str {
-    match way {
-        1 => "holds",
-        2 => "fails",
-        _ => "neither holds nor fails",
-    }
-}
+// The marked statements of a group, or of candidates.
+#[derive(Clone, Copy)]
+struct Marked<'a>(&'a [u8]);
 
-fn word_name(word: Word) -> &'static str {
-    match word {
-        Word::Open => "open, not known yet",
-        Word::Certain => "certain, may be promised",
-        Word::Loose => "loose, may not be promised",
-    }
-}
-
-fn reason(refusal: SheetRefusal) -> &'static str {
-    match refusal {
-        SheetRefusal::Length => "not one byte for each statement",
-        SheetRefusal::Value => "a pin holds or fails",
-        SheetRefusal::Mark => "a mark is 0 or 1",
-        SheetRefusal::Wide => "too many statements",
-        SheetRefusal::Unbegun => "the sheet is not begun",
-        SheetRefusal::Begun => "the sheet is begun already",
-        SheetRefusal::NoneOpen => "no candidate is open",
-        SheetRefusal::Group => "not a group of open candidates",
-        SheetRefusal::Name => "no such technique",
-        SheetRefusal::Statement => "no such statement",
-        SheetRefusal::Pinned => "pinned already",
-        SheetRefusal::NoPlan => "no plan agrees with the pins",
-        SheetRefusal::Candidate => "not a candidate",
-    }
-}
-
-// The names of the marked statements.
-fn print_marked(rt: HostRuntime, marks: &[u8]) -> io::Result<()> {
-    for i in 0..marks.len() {
-        if marks[i] == 1 {
-            let name = statement_name(i);
-            print!(rt; " [{name}]")?;
-        }
-    }
-    Ok(())
-}
-
-pub fn print_call(rt: HostRuntime, call: &Call<'_>) -> io::Result<()> {
-    match call {
-        Call::Begin(candidates) => {
-            print!(rt; "begin with")?;
-            print_marked(rt, candidates)
-        }
-        Call::Settle(group) => {
-            print!(rt; "settle")?;
-            print_marked(rt, group)
-        }
-        Call::SettleBy(technique, size) => {
-            let technique = *technique;
-            let size = *size;
-            if size > 0 {
-                return print!(rt; "settle by {technique} of {size}");
+impl fmt::Display for Marked<'_> {
+    fn fmt<W: fmt::Write>(&self, f: &mut fmt::Formatter<W>) -> fmt::Result {
+        for (statement, &mark) in self.0.iter().enumerate() {
+            if mark == MARKED {
+                write!(f, " [{}]", Statement(statement))?;
             }
-            print!(rt; "settle by {technique}")
         }
-        Call::Pin(statement, way) => {
-            let name = statement_name(*statement);
-            let way = way_name(*way);
-            print!(rt; "pin [{name}] {way}")
-        }
-        Call::Tell(statement) => {
-            let name = statement_name(*statement);
-            print!(rt; "tell [{name}]")
-        }
-        Call::Tally => print!(rt; "tally"),
+        Ok(())
     }
 }
 
-pub fn print_reply(rt: HostRuntime, reply: Reply) -> io::Result<()> {
-    match reply {
-        Reply::Refused(refusal) => {
-            let number = refusal.number();
-            let why = reason(refusal);
-            println!(rt; " -> refused by {number}: {why}")
+// A call as it is put.
+#[derive(Clone, Copy)]
+pub struct Asked<'a>(pub &'a Call<'a>);
+
+impl fmt::Display for Asked<'_> {
+    fn fmt<W: fmt::Write>(&self, f: &mut fmt::Formatter<W>) -> fmt::Result {
+        match self.0 {
+            Call::Begin(candidates) => write!(f, "begin with{}", Marked(candidates)),
+            Call::Settle(group) => write!(f, "settle{}", Marked(group)),
+            Call::SettleBy(technique, 0) => write!(f, "settle by {technique}"),
+            Call::SettleBy(technique, size) => write!(f, "settle by {technique} of {size}"),
+            Call::Pin(statement, way) => match Way::try_from(*way) {
+                Ok(way) => write!(f, "pin [{}] {way}", Statement(*statement)),
+                Err(_) => write!(f, "pin [{}] neither holds nor fails", Statement(*statement)),
+            },
+            Call::Tell(statement) => write!(f, "tell [{}]", Statement(*statement)),
+            Call::Tally => f.write_str("tally"),
         }
-        Reply::Done => println!(rt; " -> done"),
-        Reply::Settled(n) => println!(rt; " -> {n} no longer open"),
-        Reply::Told(word) => {
-            let name = word_name(word);
-            println!(rt; " -> {name}")
-        }
-        Reply::Tallied(tally) => {
-            let open = tally.open;
-            let certain = tally.certain;
-            let loose = tally.loose;
-            println!(rt; " -> {open} open, {certain} certain, {loose} loose")
+    }
+}
+
+// What it was answered.
+#[derive(Clone, Copy)]
+pub struct Answer<'a>(pub &'a Result<Reply, SheetRefusal>);
+
+impl fmt::Display for Answer<'_> {
+    fn fmt<W: fmt::Write>(&self, f: &mut fmt::Formatter<W>) -> fmt::Result {
+        match self.0 {
+            Ok(reply) => write!(f, "{reply}"),
+            Err(refusal) => write!(f, "refused by {}: {refusal}", refusal.number()),
         }
     }
 }

@@ -1,5 +1,6 @@
 // The calls of a sheet and their replies as values.
-use sheet::{SheetRefusal, Tally, Word};
+use sheet::{Tally, Word};
+use std::fmt;
 
 #[derive(Clone, Copy)]
 pub enum Call<'a> {
@@ -16,12 +17,23 @@ pub enum Call<'a> {
     Tally,
 }
 
+// The reply to a call that is not refused.
 #[derive(Clone, Copy, Debug, PartialEq, Eq)]
 pub enum Reply {
-    Refused(SheetRefusal),
     Done,
     // how many ceased to be open
     Settled(usize),
     Told(Word),
     Tallied(Tally),
+}
+
+impl fmt::Display for Reply {
+    fn fmt<W: fmt::Write>(&self, f: &mut fmt::Formatter<W>) -> fmt::Result {
+        match self {
+            Reply::Done => f.write_str("done"),
+            Reply::Settled(ceased) => write!(f, "{ceased} no longer open"),
+            Reply::Told(word) => write!(f, "{word}"),
+            Reply::Tallied(tally) => write!(f, "{tally}"),
+        }
+    }
 }

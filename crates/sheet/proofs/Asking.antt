@@ -1,6 +1,7 @@
 -- A question asked with parts of longer tables.
-use Rattle.std.proofs.Common.{◌≡◌, ℕ, ◌<◌, ◌≤◌, Bool, true, false, List, ◌++◌, length, take, MatchBool, sym, subst, arith}
+use Rattle.std.proofs.Common.{◌≡◌, ℕ, ◌<◌, ◌≤◌, Bool, true, false, List, ◌++◌, length, take, MatchBool, MatchOption, sym, subst, arith}
 use Rattle.std.proofs.lemmas.List.{length-take, get_or-take, take_at}
+use Rattle.std.specs.Bool.{then_some}
 use Rattle.source.specs.Plans.{UpTo, Serves}
 use Rattle.sheet.specs.Asks.{Served, Unserved, Found, NotFound}
 
@@ -17,7 +18,7 @@ length_cut w u xs e h = simp length-take (omega arith)
 pub found
     : (w u : ℕ) (plan : List ℕ → Type 0) → ((p : List ℕ) → plan p → length p ≡ w) → (ps gs p rest : List ℕ) (r : Bool) → u ≡ w
     → MatchBool r (Served plan (take u ps) (take u gs) p) (Unserved plan (take u ps) (take u gs))
-    → MatchBool r (Found w plan ps gs (p ++ rest)) (NotFound w plan ps gs)
+    → MatchOption (then_some r (p ++ rest)) (NotFound w plan ps gs) (Found w plan ps gs)
 found w u plan long ps gs p rest true e (q, s) =
     subst (λ x. plan x × Serves (take w ps) (take w gs) x) (sym (take_at p rest w (long p q)))
     (q, subst (λ x. Serves (take x ps) (take x gs) p) e s)

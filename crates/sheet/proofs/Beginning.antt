@@ -1,5 +1,5 @@
 -- What begin does to the sheet.
-use Rattle.std.proofs.Common.{◌≡◌, ℕ, ◌<◌, ◌≤◌, Bool, true, false, cond, eqb, List, length, get_or, take, sym, refl, ap, ◌∙◌, ⊎_elim, arith, eq-eqb}
+use Rattle.std.proofs.Common.{◌≡◌, ℕ, ◌<◌, ◌≤◌, Bool, true, false, cond, eqb, List, Some, length, get_or, take, sym, refl, ap, ◌∙◌, ⊎_elim, arith, eq-eqb}
 use Rattle.std.proofs.lemmas.Bool.{cases_lt}
 use Rattle.std.proofs.lemmas.List.{get_or_past, get_or-take}
 use Rattle.table.specs.declared.line.Line.{Line}
@@ -9,7 +9,8 @@ use Rattle.uses.specs.Model.{State, word_number, begin, done}
 use Rattle.uses.specs.Step.{Effect, begins}
 use Rattle.checks.specs.View.{view}
 use Rattle.table.specs.Blank.{line_at}
-use Rattle.table.specs.Lineup.{begun_line}
+use Rattle.table.specs.Lineup.{begun_over, begun_line}
+use Rattle.uses.specs.Way.{pin_number}
 
 word_number_lem : (b d : Bool) → word_number (cond b (cond d Loose Open) Open) ≡ cond b (cond d 2 0) 0
 word_number_lem true true = refl
@@ -19,13 +20,13 @@ word_number_lem false d = refl
 -- what begin does to the sheet
 module _ (w : ℕ) (plan : List ℕ → Type 0) (cs marks place : List ℕ) (fits : length cs ≡ w) (same : (k : ℕ) → get_or marks k 0 ≡ get_or cs k 0) (m : State) (t : Table) where
   pub begin_effect
-      : plan (take w place) → t.begun ≡ true → t.width ≡ w → ((k : ℕ) → line_at t.lines.rows k ≡ begun_line (get_or marks k 0) (get_or place k 0))
+      : plan (take w place) → t.over ≡ Some w → ((k : ℕ) → line_at t.lines.rows k ≡ begun_line (get_or marks k 0) (get_or place k 0))
       → Effect w plan m (begin cs) done (view w t)
-  begin_effect q b e f =
+  begin_effect q e f =
       begins (take w place) q
-      (ap (λ x. cond x (eqb t.width w) false) b ∙ eq-eqb t.width w e)
+      (ap (λ o. begun_over o w) e ∙ eq-eqb w w refl)
       (λ k. ap (λ (l : Line). l.candidate) (g k))
-      (λ k. ap (λ (l : Line). l.pin) (g k))
+      (λ k. ap (λ (l : Line). pin_number l.pin) (g k))
       word
     where
       g : (k : ℕ) → line_at t.lines.rows k ≡ begun_line (get_or cs k 0) (get_or place k 0)

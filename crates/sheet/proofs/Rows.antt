@@ -1,5 +1,5 @@
 -- From what the check of a call finds to what the call does: refused by the first row that applies, or taken.
-use Rattle.std.proofs.Common.{◌≡◌, ℕ, zero, suc, ◌+◌, ◌<◌, ◌≤◌, Bool, true, false, cond, eqb, ltb, ◌⊎◌, List, [], length, get_or, take, replicate, IsErrAnd, Ok, Err, codes, Result, sym, refl, ap, ◌∙◌, subst, inl, inr, ⊎_elim, arith, lt-ltb}
+use Rattle.std.proofs.Common.{◌≡◌, ℕ, zero, suc, ◌+◌, ◌<◌, ◌≤◌, Bool, true, false, cond, eqb, ltb, ◌⊎◌, List, [], Some, length, get_or, take, replicate, IsErrAnd, Ok, Err, codes, Result, sym, refl, ap, ◌∙◌, subst, inl, inr, ⊎_elim, arith, lt-ltb}
 use borrow.Author.Tests.{both_ways}
 use Rattle.std.proofs.lemmas.Bool.{cases_lt, cases_eq}
 use Rattle.source.specs.Plans.{UpTo, AgreesAt, Marks}
@@ -7,31 +7,41 @@ use Rattle.uses.specs.declared.SheetRefusal.{SheetRefusal}
 use Rattle.uses.specs.declared.SheetRefusal.TheVariants.{Length, Value, Mark, Wide, Unbegun, Begun, NoneOpen, Group, Name, Statement, Pinned, NoPlan, Candidate}
 use Rattle.uses.specs.declared.Word.{Word}
 use Rattle.uses.specs.declared.Word.TheVariants.{Open, Certain, Loose}
-use Rattle.uses.specs.Model.{word_number, number_of, is_open, counted, counted_by, lowest, begin, settle, settle_by, pin, tell, tally, refused, settled, told, tallied}
+use Rattle.uses.specs.Model.{State, Call, word_number, number_of, is_open, counted, counted_by, lowest, begin, settle, settle_by, pin, tell, tally, done, settled, told, tallied}
 use Rattle.uses.specs.Step.{pinned_at, Technique, chunk, Cause, Sent, Settles, Rest, Step, begin_length, begin_mark, begin_wide, begin_begun, begin_none, settle_length, settle_mark, settle_unbegun, settle_closed, settle_empty, settle_other, by_unbegun, by_closed, by_zero, by_unknown, pin_way, pin_unbegun, pin_outside, pin_again, pin_none, tell_unbegun, tell_outside, tell_other, tally_unbegun, settles, settles_by, tells, tallies, sent, taken}
+use Rattle.std.specs.Bool.{then_some}
+use Rattle.uses.specs.declared.Way.{Way}
+use Rattle.uses.specs.declared.Way.TheVariants.{Holds, Fails}
+use Rattle.uses.specs.Way.{way_number}
 use Rattle.uses.proofs.Law
 use Rattle.uses.proofs.Law.{bit_one, bit_none, stable_false, has_mark}
 use Rattle.table.specs.declared.line.Line.{Line}
 use Rattle.uses.specs.declared.Tally.{Tally}
 use Rattle.table.specs.declared.table.Table.{Table}
 use Rattle.table.specs.Blank.{line_at}
-use Rattle.table.specs.Lineup.{lowest_of}
+use Rattle.table.specs.Lineup.{width_of, begun_line, pinned_line, lowest_of}
 use Rattle.table.proofs.Blanks.{tied}
-use Rattle.sheet.specs.Asks.{Found, NotFound, BegunBy, PinnedBy, IfFound}
-use Rattle.checks.specs.Checks.{open_in, AllOpen, NotOpen, MayBegin, MaySettle, MaySettleBy, MayPin, MayTell, MayTally}
-use Rattle.checks.specs.Named.{Way, limit_of}
+use Rattle.sheet.specs.Asks.{Found, NotFound}
+use Rattle.checks.specs.Checks.{open_in, AllOpen, NotOpen, MayBegin, MaySettle, MaySettleBy, IsWay, MayPin, MayTell, MayTally}
+use Rattle.checks.specs.Named.{limit_of}
 use Rattle.checks.specs.View.{view}
 use Rattle.sheet.specs.View.{done_of, settled_of, told_of, tallied_of}
 use Rattle.sheet.proofs.Settling.{settles_by_lem}
 use Rattle.sheet.proofs.Beginning.{begin_effect}
 use Rattle.sheet.proofs.Pinning.{none_agrees, found_agrees, pin_effect}
 use Rattle.sheet.proofs.Naming.{Limit, marked, zeroed, unknown, limit_tied}
-use Rattle.table.proofs.Zeros.{none_serve}
+use Rattle.table.proofs.Zeros.{zeros_serve}
 
 -- a refusal that `?` hands on
 pub err_is : {T : Type 0} (r : Result T SheetRefusal) (e : SheetRefusal) → IsErrAnd r (λ y. y ≡ e) → r ≡ Err e
 err_is (Ok x) e h = absurd h
 err_is (Err y) e h = ap Err h
+
+-- a refusal for want of a plan
+no_plan
+    : (w : ℕ) (plan : List ℕ → Type 0) (m : State) (c : Call) (r : Result (Unit {0}) SheetRefusal) (e : SheetRefusal) → r ≡ Err e → e ≡ NoPlan
+    → Sent w plan m c NoPlan → Step w plan m c (done_of r) m
+no_plan w plan m c r e q n s = subst (λ y. Step w plan m c (done_of y) m) (sym (q ∙ ap Err n)) (sent s)
 
 below_14 : (f : SheetRefusal) → number_of f < 14
 below_14 Length = omega arith
@@ -84,22 +94,26 @@ module _ (w : ℕ) (plan : List ℕ → Type 0) (t : Table) (c : List ℕ) where
       → Step w plan (view w t) (begin c) (done_of r) (view w t)
   begin_refused r e q x = subst (λ y. Step w plan (view w t) (begin c) (done_of y) (view w t)) (sym q) (sent (begin_sent e x))
 
-  pub begin_asked
-      : (u : Table) (marks none place : List ℕ) (n : ℕ) (r : Result (Unit {0}) SheetRefusal)
-      → MayBegin w t c (Ok tt) → ((k : ℕ) → get_or marks k 0 ≡ get_or c k 0) → none ≡ replicate n 0
-      → IfFound (Found w plan none none place) (NotFound w plan none none) (BegunBy w marks place u) t u r
-      → Step w plan (view w t) (begin c) (done_of r) (view w u)
-  begin_asked u marks none place n (Ok v) (a, b, d, e) same z (found, changed) =
-      taken (λ f h. begin_above 14 (λ _. a) (λ _. b) (λ _. d) (λ _. e) (λ _. (take w place, found.0)) f (below_14 f) h)
-      (begin_effect w plan c marks place a same (view w t) u found.0 changed.begun changed.width changed.lines)
-  begin_asked u marks none place n (Err f) (a, b, d, e) same z (q, lost, left) =
-      subst (λ y. Step w plan (view w t) (begin c) (refused y) (view w u)) (sym q)
-      (subst (λ y. Step w plan (view w t) (begin c) (refused NoPlan) (view w y)) (sym left)
-      (sent
+  pub begin_lost
+      : (r : Result (Unit {0}) SheetRefusal) (f : SheetRefusal) → r ≡ Err f → f ≡ NoPlan
+      → MayBegin w t c (Ok tt) → NotFound w plan (replicate 512 0) (replicate 512 0)
+      → Step w plan (view w t) (begin c) (done_of r) (view w t)
+  begin_lost r f q n (a, b, d, e) lost =
+      no_plan w plan (view w t) (begin c) r f q n
       (record {
-        cause = begin_none (λ p o. lost p o (none_serve w none n z p));
+        cause = begin_none (λ p o. lost p o (zeros_serve w 512 512 p));
         first = begin_above 12 (λ _. a) (λ _. b) (λ _. d) (λ _. e) (λ h. absurd (omega arith));
-      })))
+      })
+
+  pub begin_found
+      : (u : Table) (marks place : List ℕ)
+      → MayBegin w t c (Ok tt) → ((k : ℕ) → get_or marks k 0 ≡ get_or c k 0)
+      → Found w plan (replicate 512 0) (replicate 512 0) place → u.over ≡ Some w
+      → ((k : ℕ) → line_at u.lines.rows k ≡ begun_line (get_or marks k 0) (get_or place k 0))
+      → Step w plan (view w t) (begin c) done (view w u)
+  begin_found u marks place (a, b, d, e) same found o ls =
+      taken (λ f h. begin_above 14 (λ _. a) (λ _. b) (λ _. d) (λ _. e) (λ _. (take w place, found.0)) f (below_14 f) h)
+      (begin_effect w plan c marks place a same (view w t) u found.0 o ls)
 
 -- how many are open
 none_counted : (f : ℕ → Bool) (n : ℕ) → ((k : ℕ) → f k ≡ true → ⊥) → counted_by f n ≡ 0
@@ -117,9 +131,9 @@ counted_none f (suc n) e k l t =
 none_open : (w : ℕ) (t : Table) → open_in w t ≡ 0 → (k : ℕ) → is_open (view w t) k ≡ true → ⊥
 none_open w t x k o =
     ⊎_elim
-    (λ (h : k < t.width). counted_none (is_open (view w t)) t.width x k h o)
-    (λ (h : t.width ≤ k). both_ways ((view w t).mark k) (t.unmarked k h) (has_mark ((view w t).mark k) (eqb ((view w t).word k) 0) o))
-    (cases_lt k t.width)
+    (λ (h : k < width_of t.over). counted_none (is_open (view w t)) (width_of t.over) x k h o)
+    (λ (h : width_of t.over ≤ k). both_ways ((view w t).mark k) (t.unmarked k h) (has_mark ((view w t).mark k) (eqb ((view w t).word k) 0) o))
+    (cases_lt k (width_of t.over))
 
 bit_eqb : (b : Bool) → eqb (cond b 1 0) 1 ≡ b
 bit_eqb true = refl
@@ -134,7 +148,7 @@ module _ (w : ℕ) (plan : List ℕ → Type 0) (t : Table) (g : List ℕ) where
   settle_above n a b c d e _ l (settle_length x) = x (a l)
   settle_above n a b c d e _ l (settle_mark x) = x (b l)
   settle_above n a b c d e _ l (settle_unbegun x) = both_ways (view w t).begun x (c l)
-  settle_above n a b c d e _ l (settle_closed x) = d l (none_counted (is_open (view w t)) t.width x)
+  settle_above n a b c d e _ l (settle_closed x) = d l (none_counted (is_open (view w t)) (width_of t.over) x)
   settle_above n a b c d e _ l (settle_empty x) = let h = (e l).0 in x h.0 h.1
   settle_above n a b c d e _ l (settle_other k x y) = both_ways (is_open (view w t) k) y ((e l).1 k x)
 
@@ -184,7 +198,7 @@ module _ (w : ℕ) (plan : List ℕ → Type 0) (t : Table) (name : List ℕ) (s
       → (8 < n → name ≡ codes "chunk" → size ≡ 0 → ⊥) → (9 < n → (l : ℕ) × Technique name size w l)
       → (f : SheetRefusal) → number_of f < n → Cause w plan (view w t) (settle_by name size) f → ⊥
   by_above n a b c d _ l (by_unbegun x) = both_ways (view w t).begun x (a l)
-  by_above n a b c d _ l (by_closed x) = b l (none_counted (is_open (view w t)) t.width x)
+  by_above n a b c d _ l (by_closed x) = b l (none_counted (is_open (view w t)) (width_of t.over) x)
   by_above n a b c d _ l (by_zero x y) = c l x y
   by_above n a b c d _ l (by_unknown x) = let h = d l in x h.0 h.1
 
@@ -195,7 +209,7 @@ module _ (w : ℕ) (plan : List ℕ → Type 0) (t : Table) (name : List ℕ) (s
       record { cause = by_unknown x; first = by_above 9 (λ _. a) (λ _. b) (λ _ h z. x size (subst (λ n. Technique n size w size) (sym h) chunk)) (λ h. absurd (omega arith)) }
 
   by_rest
-      : (e : SheetRefusal) → ((view w t).begun ≡ true) × (open_in w t ≡ 0 → ⊥) × (Err e ≡ limit_of name size t.width)
+      : (e : SheetRefusal) → ((view w t).begun ≡ true) × (open_in w t ≡ 0 → ⊥) × (Err e ≡ limit_of name size (width_of t.over))
       → Sent w plan (view w t) (settle_by name size) e
   by_rest e (a, b, x) = by_limit e a b (limit_tied w t name size (Err e) a x)
 
@@ -243,13 +257,13 @@ module _ (w : ℕ) (plan : List ℕ → Type 0) (t : Table) (name : List ℕ) (s
       where
         go : Limit name size w (Ok l) → (k : ℕ) × (get_or ms k 0 ≡ 1) × (k < w)
         go (marked x y) =
-            let wd : t.width ≡ w = tied t.begun t.width w may.0 in
-            let j = Law.first_open (view w t) t.width may.1 in
-            let pos : 0 < l = Law.limit_more x (let i : j.0 < t.width = j.1 in omega arith) y in
+            let wd : width_of t.over ≡ w = tied t.over w may.0 in
+            let j = Law.first_open (view w t) (width_of t.over) may.1 in
+            let pos : 0 < l = Law.limit_more x (let i : j.0 < width_of t.over = j.1 in omega arith) y in
             let z : counted (view w t) Open j.0 ≡ 0 = j.3 in (
               j.0,
               lows j.0 ∙ ap (λ c. cond c 1 0) (Law.has_from (is_open (view w t) j.0) (ltb (counted (view w t) Open j.0) l) j.2 (lt-ltb (counted (view w t) Open j.0) l (omega arith))),
-              (let i : j.0 < t.width = j.1 in omega arith),
+              (let i : j.0 < width_of t.over = j.1 in omega arith),
             )
 
 -- marks are 0 and 1
@@ -263,7 +277,7 @@ lowest_few rows l ms e k h = subst (λ x. x ≤ 1) (sym (e k)) (bit (lowest_of r
 -- pin
 module _ (w : ℕ) (plan : List ℕ → Type 0) (t : Table) (s way : ℕ) where
   pin_above
-      : (n : ℕ) → (2 < n → Way way) → (5 < n → (view w t).begun ≡ true) → (10 < n → s < w) → (11 < n → (view w t).pin s ≡ 0)
+      : (n : ℕ) → (2 < n → IsWay way) → (5 < n → (view w t).begun ≡ true) → (10 < n → s < w) → (11 < n → (view w t).pin s ≡ 0)
       → (12 < n → (p : List ℕ) × plan p × AgreesAt (pinned_at (view w t).pin s way) p)
       → (f : SheetRefusal) → number_of f < n → Cause w plan (view w t) (pin s way) f → ⊥
   pin_above n a b c d e _ l (pin_way x y) = ⊎_elim x y (a l)
@@ -272,10 +286,10 @@ module _ (w : ℕ) (plan : List ℕ → Type 0) (t : Table) (s way : ℕ) where
   pin_above n a b c d e _ l (pin_again x) = x (d l)
   pin_above n a b c d e _ l (pin_none x) = let h = e l in x h.0 h.1 h.2
 
-  width : (view w t).begun ≡ true → t.width ≡ w
-  width b = tied t.begun t.width w b
+  width : (view w t).begun ≡ true → width_of t.over ≡ w
+  width b = tied t.over w b
 
-  inside : (view w t).begun ≡ true → s < t.width → s < w
+  inside : (view w t).begun ≡ true → s < width_of t.over → s < w
   inside b h = let e = width b in omega arith
 
   pin_sent : (e : SheetRefusal) → MayPin w t s way (Err e) → Sent w plan (view w t) (pin s way) e
@@ -285,7 +299,7 @@ module _ (w : ℕ) (plan : List ℕ → Type 0) (t : Table) (s way : ℕ) where
       record { cause = pin_unbegun x.1; first = pin_above 5 (λ _. x.0) (λ h. absurd (omega arith)) (λ h. absurd (omega arith)) (λ h. absurd (omega arith)) (λ h. absurd (omega arith)) }
   pin_sent Statement x =
       record {
-        cause = pin_outside (let e = width x.1 in let l : t.width ≤ s = x.2 in omega arith);
+        cause = pin_outside (let e = width x.1 in let l : width_of t.over ≤ s = x.2 in omega arith);
         first = pin_above 10 (λ _. x.0) (λ _. x.1) (λ h. absurd (omega arith)) (λ h. absurd (omega arith)) (λ h. absurd (omega arith));
       }
   pin_sent Pinned x =
@@ -305,25 +319,37 @@ module _ (w : ℕ) (plan : List ℕ → Type 0) (t : Table) (s way : ℕ) where
       → Step w plan (view w t) (pin s way) (done_of r) (view w t)
   pin_refused r e q x = subst (λ y. Step w plan (view w t) (pin s way) (done_of y) (view w t)) (sym q) (sent (pin_sent e x))
 
-  pub pin_asked
-      : (u : Table) (ps none place : List ℕ) (n : ℕ) (r : Result (Unit {0}) SheetRefusal)
-      → MayPin w t s way (Ok tt) → ((k : ℕ) → get_or ps k 0 ≡ pinned_at (λ j. (line_at t.lines.rows j).pin) s way k) → none ≡ replicate n 0
-      → IfFound (Found w plan ps none place) (NotFound w plan ps none) (PinnedBy t s way place u) t u r
-      → Step w plan (view w t) (pin s way) (done_of r) (view w u)
-  pin_asked u ps none place n (Ok v) (a, b, h, z) same q (found, changed) =
-      taken (λ f y. pin_above 14 (λ _. a) (λ _. b) (λ _. inside b h) (λ _. z) (λ _. (take w place, found.0, found_agrees w t s way (width b) h plan ps place n same found')) f (below_14 f) y)
-      (pin_effect w t s way (width b) h plan ps place n same u found' changed.begun changed.width changed.lines)
-    where
-      found' : Found w plan ps (replicate n 0) place
-      found' = subst (λ xs. Found w plan ps xs place) q found
-  pin_asked u ps none place n (Err f) (a, b, h, z) same q (e, lost, left) =
-      subst (λ y. Step w plan (view w t) (pin s way) (refused y) (view w u)) (sym e)
-      (subst (λ y. Step w plan (view w t) (pin s way) (refused NoPlan) (view w y)) (sym left)
-      (sent
+is_way : (v : Way) → IsWay (way_number v)
+is_way Holds = inl refl
+is_way Fails = inr refl
+
+-- a pin that is not refused before the source is asked
+module _ (w : ℕ) (plan : List ℕ → Type 0) (t : Table) (s way : ℕ) (v : Way) (ps : List ℕ) (may : MayPin w t s way (Ok v))
+    (same : (k : ℕ) → get_or ps k 0 ≡ pinned_at (view w t).pin s (way_number v) k) where
+  wide : width_of t.over ≡ w
+  wide = tied t.over w may.1
+
+  pub pin_lost
+      : (r : Result (Unit {0}) SheetRefusal) (f : SheetRefusal) → r ≡ Err f → f ≡ NoPlan
+      → NotFound w plan ps (replicate 512 0) → Step w plan (view w t) (pin s way) (done_of r) (view w t)
+  pin_lost r f q n lost =
+      subst (λ x. Step w plan (view w t) (pin s x) (done_of r) (view w t)) may.0
+      (no_plan w plan (view w t) (pin s (way_number v)) r f q n
       (record {
-        cause = pin_none (none_agrees w t s way (width b) h plan ps [] n same (subst (λ xs. NotFound w plan ps xs) q lost));
-        first = pin_above 12 (λ _. a) (λ _. b) (λ _. inside b h) (λ _. z) (λ h. absurd (omega arith));
-      })))
+        cause = pin_none (none_agrees w t s v wide may.2 plan ps [] 512 same lost);
+        first = pin_above w plan t s (way_number v) 12 (λ _. is_way v) (λ _. may.1) (λ _. inside w plan t s way may.1 may.2) (λ _. may.3) (λ h. absurd (omega arith));
+      }))
+
+  pub pin_found
+      : (u : Table) (place : List ℕ) → Found w plan ps (replicate 512 0) place → u.over ≡ t.over
+      → ((k : ℕ) → line_at u.lines.rows k ≡ pinned_line (then_some (eqb k s) v) (line_at t.lines.rows k) (get_or place k 0))
+      → Step w plan (view w t) (pin s way) done (view w u)
+  pin_found u place found o ls =
+      subst (λ x. Step w plan (view w t) (pin s x) done (view w u)) may.0
+      (taken
+      (λ f y. pin_above w plan t s (way_number v) 14 (λ _. is_way v) (λ _. may.1) (λ _. inside w plan t s way may.1 may.2) (λ _. may.3)
+      (λ _. (take w place, found.0, found_agrees w t s v wide may.2 plan ps place 512 same found)) f (below_14 f) y)
+      (pin_effect w t s v wide may.2 plan ps place 512 same u found o ls))
 
 -- tell
 module _ (w : ℕ) (plan : List ℕ → Type 0) (t : Table) (s : ℕ) where
@@ -334,14 +360,14 @@ module _ (w : ℕ) (plan : List ℕ → Type 0) (t : Table) (s : ℕ) where
   tell_above n a b c _ l (tell_outside x) = let h : s < w = b l in omega arith
   tell_above n a b c _ l (tell_other x) = both_ways ((view w t).mark s) x (c l)
 
-  below : (view w t).begun ≡ true → s < t.width → s < w
-  below b h = let e = tied t.begun t.width w b in omega arith
+  below : (view w t).begun ≡ true → s < width_of t.over → s < w
+  below b h = let e = tied t.over w b in omega arith
 
   tell_sent : (e : SheetRefusal) → MayTell w t s (Err e) → Sent w plan (view w t) (tell s) e
   tell_sent Unbegun x = record { cause = tell_unbegun x; first = tell_above 5 (λ h. absurd (omega arith)) (λ h. absurd (omega arith)) (λ h. absurd (omega arith)) }
   tell_sent Statement x =
       record {
-        cause = tell_outside (let e = tied t.begun t.width w x.0 in let l : t.width ≤ s = x.1 in omega arith);
+        cause = tell_outside (let e = tied t.over w x.0 in let l : width_of t.over ≤ s = x.1 in omega arith);
         first = tell_above 10 (λ _. x.0) (λ h. absurd (omega arith)) (λ h. absurd (omega arith));
       }
   tell_sent Candidate x = record { cause = tell_other x.2; first = tell_above 13 (λ _. x.0) (λ _. below x.0 x.1) (λ h. absurd (omega arith)) }
@@ -394,6 +420,6 @@ module _ (w : ℕ) (plan : List ℕ → Type 0) (t : Table) where
 
   pub tally_step : (r : Result Tally SheetRefusal) → MayTally w t r → Step w plan (view w t) tally (tallied_of r) (view w t)
   tally_step (Ok n) (b, o, c, l) =
-      let x : t.width ≡ w = tied t.begun t.width w b in
+      let x : width_of t.over ≡ w = tied t.over w b in
       counts n.open n.certain n.loose (o ∙ ap (counted (view w t) Open) x) (c ∙ ap (counted (view w t) Certain) x) (l ∙ ap (counted (view w t) Loose) x) b
   tally_step (Err e) x = sent (tally_sent e x)

@@ -1,5 +1,5 @@
 -- What a settling does to the sheet.
-use Rattle.std.proofs.Common.{◌≡◌, ℕ, ◌+◌, ◌<◌, ◌≤◌, Bool, true, false, cond, eqb, List, length, get_or, take, MatchBool, sym, refl, ap, ◌∙◌, subst, ⊎_elim, arith, eq-eqb, eqb-true}
+use Rattle.std.proofs.Common.{◌≡◌, ℕ, ◌+◌, ◌-◌, ◌<◌, ◌≤◌, Bool, true, false, cond, eqb, List, length, get_or, take, Option, Some, None, MatchOption, sym, refl, ap, ◌∙◌, subst, ⊎_elim, arith, eq-eqb, eqb-true}
 use Rattle.std.proofs.lemmas.Bool.{cases_lt}
 use Rattle.std.proofs.lemmas.List.{get_or_past, get_or-take, length-take}
 use Rattle.source.specs.Plans.{UpTo, Whole, AgreesAt}
@@ -9,7 +9,8 @@ use Rattle.uses.specs.declared.Word.TheVariants.{Open, Certain, Loose}
 use Rattle.table.specs.declared.table.Table.{Table}
 use Rattle.sheet.specs.Asks.{Found, NotFound}
 use Rattle.table.specs.Blank.{line_at}
-use Rattle.table.specs.Lineup.{settled_line}
+use Rattle.table.specs.Lineup.{width_of, begun_over, byte_in, settled_line}
+use Rattle.uses.specs.Way.{pin_number}
 use Rattle.uses.specs.Model.{State, is_open, counted, word_number}
 use Rattle.uses.specs.Step.{Settles, Rest, none, some}
 use Rattle.checks.specs.View.{view}
@@ -19,7 +20,8 @@ use Rattle.table.proofs.Blanks.{tied}
 take_past : (w : ℕ) (xs : List ℕ) (k : ℕ) → w ≤ k → get_or (take w xs) k 0 ≡ 0
 take_past w xs k h = get_or_past (take w xs) k 0 (simp length-take (omega arith))
 
-number_if : (b : Bool) (x y : Word) → word_number (cond b x y) ≡ cond b (word_number x) (word_number y)
+-- the word of a line, by a test
+pub number_if : (b : Bool) (x y : Word) → word_number (cond b x y) ≡ cond b (word_number x) (word_number y)
 number_if true x y = refl
 number_if false x y = refl
 
@@ -41,12 +43,12 @@ module _ (w : ℕ) (pins : List ℕ) (f : ℕ → ℕ) (ps : (k : ℕ) → get_o
       (cases_lt k w)
 
 -- a pinned statement is one of the source's
-pub pin_inside : (w : ℕ) (t : Table) → t.width ≡ w → (k : ℕ) → ((line_at t.lines.rows k).pin ≡ 0 → ⊥) → k < w
-pin_inside w t e k h = ⊎_elim (λ (x : k < w). x) (λ (x : w ≤ k). absurd (h (t.unpinned k (omega arith)))) (cases_lt k w)
+pub pin_inside : (w : ℕ) (t : Table) → width_of t.over ≡ w → (k : ℕ) → ((view w t).pin k ≡ 0 → ⊥) → k < w
+pin_inside w t e k h = ⊎_elim (λ (x : k < w). x) (λ (x : w ≤ k). absurd (h (ap pin_number (t.unpinned k (omega arith))))) (cases_lt k w)
 
-module _ (w : ℕ) (plan : List ℕ → Type 0) (whole : (p : List ℕ) → plan p → Whole w p) (t u : Table) (pins marks place : List ℕ)
-    (wide : t.width ≡ w)
-    (ps : (k : ℕ) → get_or pins k 0 ≡ (line_at t.lines.rows k).pin) where
+module _ (w : ℕ) (plan : List ℕ → Type 0) (whole : (p : List ℕ) → plan p → Whole w p) (t u : Table) (pins marks : List ℕ)
+    (wide : width_of t.over ≡ w)
+    (ps : (k : ℕ) → get_or pins k 0 ≡ (view w t).pin k) where
   mark_inside : (k : ℕ) → get_or (take w marks) k 0 ≡ 1 → k < w
   mark_inside k h =
       ⊎_elim (λ (x : k < w). x) (λ (x : w ≤ k). let z = take_past w marks k x in absurd (omega arith)) (cases_lt k w)
@@ -55,12 +57,11 @@ module _ (w : ℕ) (plan : List ℕ → Type 0) (whole : (p : List ℕ) → plan
   closed_outside k h = ap (λ b. cond b (eqb (word_number (line_at t.lines.rows k).word) 0) false) (t.unmarked k (omega arith))
 
   pub settles_from
-      : (found : Bool) → MatchBool found (Found w plan pins marks place) (NotFound w plan pins marks)
+      : (found : Option (List ℕ)) → MatchOption found (NotFound w plan pins marks) (Found w plan pins marks)
       → ((k : ℕ) × (get_or marks k 0 ≡ 1) × (k < w))
-      → ((k : ℕ) → line_at u.lines.rows k ≡ settled_line found (line_at t.lines.rows k) (get_or place k 0) (get_or marks k 0))
+      → ((k : ℕ) → line_at u.lines.rows k ≡ settled_line (byte_in found k) (line_at t.lines.rows k) (get_or marks k 0))
       → Settles w plan (view w t) (λ k. eqb (get_or marks k 0) 1) (view w u)
-  unfolding settled_line
-  settles_from true (q, (a, m)) s ls =
+  settles_from (Some place) (q, (a, m)) s ls =
       some (take w place) q (to_view w pins (view w t).pin ps (pin_inside w t wide) (take w place) a) j.0
       (eq-eqb (get_or marks j.0 0) 1 (sym (get_or-take w marks j.0 0 in') ∙ j.1)) j.2 word
     where
@@ -84,7 +85,7 @@ module _ (w : ℕ) (plan : List ℕ → Type 0) (whole : (p : List ℕ) → plan
           (sym (get_or-take w place k 0 h)))
           (λ (h : w ≤ k). rw (closed_outside k h) refl)
           (cases_lt k w)
-  settles_from false f s ls =
+  settles_from None f s ls =
       none
       (λ p q a k g e.
       f p q (
@@ -99,15 +100,14 @@ module _ (w : ℕ) (plan : List ℕ → Type 0) (whole : (p : List ℕ) → plan
           ⊎_elim (λ (x : k < w). x) (λ (x : w ≤ k). let z = get_or_past p k 0 (omega arith) in absurd (omega arith)) (cases_lt k w)
 
   pub rest_from
-      : (found : Bool) → u.begun ≡ t.begun → u.width ≡ t.width
-      → ((k : ℕ) → line_at u.lines.rows k ≡ settled_line found (line_at t.lines.rows k) (get_or place k 0) (get_or marks k 0))
+      : (found : Option (List ℕ)) → u.over ≡ t.over
+      → ((k : ℕ) → line_at u.lines.rows k ≡ settled_line (byte_in found k) (line_at t.lines.rows k) (get_or marks k 0))
       → Rest w plan (view w t) (view w u)
-  unfolding settled_line
-  rest_from found b e ls =
+  rest_from found e ls =
       record {
-        begun = ap (λ x. cond x (eqb u.width w) false) b ∙ ap (λ x. cond t.begun (eqb x w) false) e;
+        begun = ap (λ o. begun_over o w) e;
         mark = λ k. ap (λ (l : Line). l.candidate) (ls k);
-        pin = λ k. ap (λ (l : Line). l.pin) (ls k);
+        pin = λ k. ap (λ (l : Line). pin_number l.pin) (ls k);
       }
 
 -- a settling leaves no more open than there were
@@ -121,31 +121,31 @@ pub record Done (w : ℕ) (plan : List ℕ → Type 0) (t u : Table) (marks : Li
   pub rest : Rest w plan (view w t) (view w u)
   pub settles : Settles w plan (view w t) (λ k. eqb (get_or marks k 0) 1) (view w u)
   pub fewer : after ≤ before
-  pub counts : (r : ℕ) → r + after ≡ before → r + counted (view w u) Open w ≡ counted (view w t) Open w
+  pub counts : before - after + counted (view w u) Open w ≡ counted (view w t) Open w
 
 pub all_done
     : (w : ℕ) (plan : List ℕ → Type 0) → ((p : List ℕ) → plan p → Whole w p)
-    → (t u : Table) (pins marks place : List ℕ) (before after : ℕ) (found : Bool)
+    → (t u : Table) (pins marks : List ℕ) (before after : ℕ) (found : Option (List ℕ))
     → (view w t).begun ≡ true
     → ((k : ℕ) × (get_or marks k 0 ≡ 1) × (k < w))
-    → before ≡ counted (view w t) Open t.width
-    → ((k : ℕ) → get_or pins k 0 ≡ (line_at t.lines.rows k).pin)
-    → MatchBool found (Found w plan pins marks place) (NotFound w plan pins marks)
-    → ((k : ℕ) → line_at u.lines.rows k ≡ settled_line found (line_at t.lines.rows k) (get_or place k 0) (get_or marks k 0))
-    → u.begun ≡ t.begun → u.width ≡ t.width
-    → after ≡ counted (view w u) Open u.width
+    → before ≡ counted (view w t) Open (width_of t.over)
+    → ((k : ℕ) → get_or pins k 0 ≡ (view w t).pin k)
+    → MatchOption found (NotFound w plan pins marks) (Found w plan pins marks)
+    → ((k : ℕ) → line_at u.lines.rows k ≡ settled_line (byte_in found k) (line_at t.lines.rows k) (get_or marks k 0))
+    → u.over ≡ t.over
+    → after ≡ counted (view w u) Open (width_of u.over)
     → Done w plan t u marks before after
-all_done w plan whole t u pins marks place before after found b s n ps f ls ub uw a =
-    record { rest = r; settles = x; fewer = omega (arith, l, n', a'); counts = λ r h. omega (arith, l, n', a') }
+all_done w plan whole t u pins marks before after found b s n ps f ls uo a =
+    record { rest = r; settles = x; fewer = omega (arith, l, n', a'); counts = omega (arith, l, n', a') }
   where
-    e : t.width ≡ w
-    e = tied t.begun t.width w b
+    e : width_of t.over ≡ w
+    e = tied t.over w b
 
     r : Rest w plan (view w t) (view w u)
-    r = rest_from w plan whole t u pins marks place e ps found ub uw ls
+    r = rest_from w plan whole t u pins marks e ps found uo ls
 
     x : Settles w plan (view w t) (λ k. eqb (get_or marks k 0) 1) (view w u)
-    x = settles_from w plan whole t u pins marks place e ps found f s ls
+    x = settles_from w plan whole t u pins marks e ps found f s ls
 
     l : counted (view w u) Open w ≤ counted (view w t) Open w
     l = fewer w plan whole (λ k. eqb (get_or marks k 0) 1) r x
@@ -154,7 +154,7 @@ all_done w plan whole t u pins marks place before after found b s n ps f ls ub u
     n' = n ∙ ap (counted (view w t) Open) e
 
     a' : after ≡ counted (view w u) Open w
-    a' = a ∙ ap (counted (view w u) Open) (uw ∙ e)
+    a' = a ∙ ap (counted (view w u) Open) (ap width_of uo ∙ e)
 
 -- another way to write the same group
 pub settles_by_lem

@@ -1,11 +1,6 @@
--- Questions put to a source of the plans `plan`, and what becomes of the table by their answers.
-use Rattle.std.specs.Prelude.{◌≡◌, ℕ, true, List, take, Ok, Err, Result, ◌==◌, slice_index}
+-- Questions put to a source of the plans `plan`.
+use Rattle.std.specs.Prelude.{ℕ, List, take}
 use Rattle.source.specs.Plans.{Serves}
-use Rattle.uses.specs.declared.SheetRefusal.{SheetRefusal}
-use Rattle.uses.specs.declared.SheetRefusal.TheVariants.{NoPlan}
-use Rattle.table.specs.declared.table.Table.{Table}
-use Rattle.table.specs.Blank.{line_at}
-use Rattle.table.specs.Lineup.{begun_line, pinned_line}
 
 -- `place` is a plan that serves
 abbrev pub Served : (List ℕ → Type 0) → List ℕ → List ℕ → List ℕ → Type 0
@@ -22,20 +17,3 @@ Found w plan pins group place = Served plan (take w pins) (take w group) (take w
 -- no plan of width w serves
 abbrev pub NotFound : ℕ → (List ℕ → Type 0) → List ℕ → List ℕ → Type 0
 NotFound w plan pins group = Unserved plan (take w pins) (take w group)
-
--- the table u is one that begins over the width w with the marks, by the bytes of a plan
-pub record BegunBy (w : ℕ) (marks place : List ℕ) (u : Table) : Type 0 where
-  pub begun : u.begun ≡ true
-  pub width : u.width ≡ w
-  pub lines : (k : ℕ) → line_at u.lines.rows k ≡ begun_line (slice_index marks k) (slice_index place k)
-
--- the table u is t with one pin more, by the bytes of a plan
-pub record PinnedBy (t : Table) (statement way : ℕ) (place : List ℕ) (u : Table) : Type 0 where
-  pub begun : u.begun ≡ t.begun
-  pub width : u.width ≡ t.width
-  pub lines : (k : ℕ) → line_at u.lines.rows k ≡ pinned_line (k == statement) way (line_at t.lines.rows k) (slice_index place k)
-
--- a change `Changed` of the table for a plan that was found; else it is refused and the table u is as t was
-abbrev pub IfFound : Type 0 → Type 0 → Type 0 → Table → Table → Result (Unit {0}) SheetRefusal → Type 0
-IfFound found lost changed t u (Ok _) = found × changed
-IfFound found lost changed t u (Err e) = (e ≡ NoPlan) × lost × (u ≡ t)

@@ -1,40 +1,32 @@
 // The certainty sheet over any source: which candidates hold in every plan, promised step by step and never taken back.
 #![tactic(auto)]
 
-ghost use Rattle.std.specs.Prelude.{◌≡◌, ℕ, ◌+◌, ◌<◌, ◌≤◌, true, MatchBool, nat_eq, slice_index};
+ghost use Rattle.std.specs.Prelude.{◌≡◌, ℕ, ◌+◌, ◌<◌, ◌≤◌, true, replicate, MatchResult, nat_eq, slice_index};
 ghost use Rattle.source.specs.Plans.{Of, UpTo};
+ghost use Rattle.uses.specs.declared.SheetRefusal.TheVariants.{NoPlan};
 ghost use Rattle.uses.specs.declared.Word.TheVariants.{Open};
 ghost use Rattle.uses.specs.Model.{Fresh, begin, settle, settle_by, pin, tell, tally, counted};
 ghost use Rattle.uses.specs.Step.{Rest, Settles};
-ghost use Rattle.table.specs.Blank.{line_at};
-ghost use Rattle.table.specs.Lineup.{settled_line};
 ghost use Rattle.checks.specs.View.{view};
 ghost use Rattle.sheet.specs.View.{done_of, settled_of, told_of, tallied_of, Steps, LawStarts, LawContinues};
-ghost use Rattle.sheet.specs.Asks.{Found, NotFound, BegunBy, PinnedBy, IfFound};
+ghost use Rattle.sheet.specs.Asks.{Found, NotFound};
 
 use ask::ask;
-use checks::{may_begin, may_pin, may_settle, may_settle_by, may_tally, may_tell};
+use checks::Checks;
 use source::Source;
-use table::groups::{widened, zeros};
+use source::bytes::UNDECIDED;
+use table::groups::widened;
 use table::line::LINES;
 use table::table::Table;
 
 mod ask;
 
-pub use uses::{SheetRefusal, Tally, Word};
+pub use uses::{SheetRefusal, Tally, Way, Word};
 
 #[derive(Drop)]
 pub struct Sheet<S: Source> {
     source: S,
     table: Table,
-}
-
-// How many ceased to be open.
-fn ceased(before: usize, after: usize) -> usize
-    requires { after ≤ before }
-    ensures { result + after ≡ before }
-{
-    before - after
 }
 
 impl<S: Source> Sheet<S> {
@@ -56,11 +48,11 @@ impl<S: Source> Sheet<S> {
         ensures step { Steps (S.wide self.old.source) (S.plan self.old.source) self.old.table (begin candidates.now) (done_of result) self.new.table }
         ensures law { LawContinues (S.wide self.old.source) (S.plan self.old.source) self.old.table (begin candidates.now) (done_of result) self.new.table }
     {
-        may_begin(&self.table, self.source.width(), candidates)?;
+        self.checks().may_begin(candidates)?;
+        let plan = self.plan(&[UNDECIDED; LINES])?;
         let marks = widened(candidates);
-        let none = zeros();
-        let mut place = [0u8; LINES];
-        self.begin_lines(&marks, &none, &mut place)
+        self.table.begin(self.source.width(), &marks, &plan);
+        Ok(())
     }
 
     // Settles a group of open candidates; how many ceased to be open.
@@ -69,9 +61,8 @@ impl<S: Source> Sheet<S> {
         ensures step { Steps (S.wide self.old.source) (S.plan self.old.source) self.old.table (settle group.now) (settled_of result) self.new.table }
         ensures law { LawContinues (S.wide self.old.source) (S.plan self.old.source) self.old.table (settle group.now) (settled_of result) self.new.table }
     {
-        may_settle(&self.table, self.source.width(), group)?;
-        let marks = widened(group);
-        Ok(self.settle_marks(&marks))
+        self.checks().may_settle(group)?;
+        Ok(self.settle_marks(&widened(group)))
     }
 
     // Settles by a technique: "over" all open candidates, "under" the lowest one, "chunk" the lowest ones up to the size.
@@ -80,7 +71,7 @@ impl<S: Source> Sheet<S> {
         ensures step { Steps (S.wide self.old.source) (S.plan self.old.source) self.old.table (settle_by technique.now size) (settled_of result) self.new.table }
         ensures law { LawContinues (S.wide self.old.source) (S.plan self.old.source) self.old.table (settle_by technique.now size) (settled_of result) self.new.table }
     {
-        let limit = may_settle_by(&self.table, self.source.width(), technique, size)?;
+        let limit = self.checks().may_settle_by(technique, size)?;
         let marks = self.table.lowest(limit);
         Ok(self.settle_marks(&marks))
     }
@@ -91,11 +82,10 @@ impl<S: Source> Sheet<S> {
         ensures step { Steps (S.wide self.old.source) (S.plan self.old.source) self.old.table (pin statement way) (done_of result) self.new.table }
         ensures law { LawContinues (S.wide self.old.source) (S.plan self.old.source) self.old.table (pin statement way) (done_of result) self.new.table }
     {
-        may_pin(&self.table, self.source.width(), statement, way)?;
-        let pins = self.table.pins_with(statement, way);
-        let none = zeros();
-        let mut place = [0u8; LINES];
-        self.pin_lines(&pins, &none, statement, way, &mut place)
+        let way = self.checks().may_pin(statement, way)?;
+        let plan = self.plan(&self.table.pins_with(statement, way))?;
+        self.table.repin(statement, way, &plan);
+        Ok(())
     }
 
     // The word of a candidate.
@@ -103,7 +93,7 @@ impl<S: Source> Sheet<S> {
         ensures step { Steps (S.wide self.now.source) (S.plan self.now.source) self.now.table (tell statement) (told_of result) self.now.table }
         ensures law { LawContinues (S.wide self.now.source) (S.plan self.now.source) self.now.table (tell statement) (told_of result) self.now.table }
     {
-        may_tell(&self.table, self.source.width(), statement)
+        self.checks().may_tell(statement)
     }
 
     // How many candidates are open, certain and loose.
@@ -111,50 +101,26 @@ impl<S: Source> Sheet<S> {
         ensures step { Steps (S.wide self.now.source) (S.plan self.now.source) self.now.table tally (tallied_of result) self.now.table }
         ensures law { LawContinues (S.wide self.now.source) (S.plan self.now.source) self.now.table tally (tallied_of result) self.now.table }
     {
-        may_tally(&self.table, self.source.width())
+        self.checks().may_tally()
     }
 
-    // Questions with the empty pins and the empty group `none`, and has the lines begin if a plan comes.
-    fn begin_lines(
-        &mut self,
-        marks: &[u8; LINES],
-        none: &[u8; LINES],
-        place: &mut [u8; LINES],
-    ) -> Result<(), SheetRefusal>
-        requires narrow { S.wide self.old.source ≤ 512 }
-        requires pins { UpTo 2 none.now }
-        requires group { UpTo 1 none.now }
-        requires bytes { UpTo 1 marks.now }
-        requires marks { (k : ℕ) → S.wide self.old.source ≤ k → slice_index marks.now k ≡ 0 }
-        ensures source { self.new.source ≡ self.old.source }
-        ensures asked { IfFound (Found (S.wide self.old.source) (Of (S.wide self.old.source) (S.plan self.old.source)) none.now none.now place.new) (NotFound (S.wide self.old.source) (Of (S.wide self.old.source) (S.plan self.old.source)) none.now none.now) (BegunBy (S.wide self.old.source) marks.now place.new self.new.table) self.old.table self.new.table result }
+    fn checks(&self) -> Checks<'_>
+        ensures table { result.table.now ≡ self.now.table }
+        ensures width { result.width ≡ S.wide self.now.source }
     {
-        if !ask(&self.source, none, none, place) {
-            return Err(SheetRefusal::NoPlan);
+        Checks {
+            table: &self.table,
+            width: self.source.width(),
         }
-        self.table.begin(self.source.width(), marks, place);
-        Ok(())
     }
 
-    // Questions with the pins so far and the group `marks`, and has the lines settle by the answer.
-    fn settle_lines(
-        &mut self,
-        pins: &[u8; LINES],
-        marks: &[u8; LINES],
-        place: &mut [u8; LINES],
-    ) -> bool
-        requires narrow { S.wide self.old.source ≤ 512 }
+    // Questions with the pins and without a group.
+    fn plan(&self, pins: &[u8; LINES]) -> Result<[u8; LINES], SheetRefusal>
+        requires narrow { S.wide self.now.source ≤ 512 }
         requires pins { UpTo 2 pins.now }
-        requires marks { UpTo 1 marks.now }
-        ensures source { self.new.source ≡ self.old.source }
-        ensures begun { self.new.table.begun ≡ self.old.table.begun }
-        ensures width { self.new.table.width ≡ self.old.table.width }
-        ensures asked { MatchBool result (Found (S.wide self.old.source) (Of (S.wide self.old.source) (S.plan self.old.source)) pins.now marks.now place.new) (NotFound (S.wide self.old.source) (Of (S.wide self.old.source) (S.plan self.old.source)) pins.now marks.now) }
-        ensures lines { (k : ℕ) → line_at self.new.table.lines.rows k ≡ settled_line result (line_at self.old.table.lines.rows k) (slice_index place.new k) (slice_index marks.now k) }
+        ensures { MatchResult result (λ plan. Found (S.wide self.now.source) (Of (S.wide self.now.source) (S.plan self.now.source)) pins.now (replicate 512 0) plan) (λ e. (e ≡ NoPlan) × NotFound (S.wide self.now.source) (Of (S.wide self.now.source) (S.plan self.now.source)) pins.now (replicate 512 0)) }
     {
-        let found = ask(&self.source, pins, marks, place);
-        self.table.settle(found, place, marks);
-        found
+        ask(&self.source, pins, &[0; LINES]).ok_or(SheetRefusal::NoPlan)
     }
 
     // Questions with the pins so far and the group `marks`; how many ceased to be open.
@@ -168,34 +134,8 @@ impl<S: Source> Sheet<S> {
         ensures count { result + counted (view (S.wide self.old.source) self.new.table) Open (S.wide self.old.source) ≡ counted (view (S.wide self.old.source) self.old.table) Open (S.wide self.old.source) }
     {
         let before = self.table.count(Word::Open);
-        let pins = self.table.lines.pins();
-        let mut place = [0u8; LINES];
-        let _ = self.settle_lines(&pins, marks, &mut place);
-        let after = self.table.count(Word::Open);
-        ceased(before, after)
-    }
-
-    // Questions with the pins and the empty group `none`, and has the lines take the pin if a plan comes.
-    fn pin_lines(
-        &mut self,
-        pins: &[u8; LINES],
-        none: &[u8; LINES],
-        statement: usize,
-        way: u8,
-        place: &mut [u8; LINES],
-    ) -> Result<(), SheetRefusal>
-        requires narrow { S.wide self.old.source ≤ 512 }
-        requires pins { UpTo 2 pins.now }
-        requires none { UpTo 1 none.now }
-        requires inside { statement < self.old.table.width }
-        requires way { way ≤ 2 }
-        ensures source { self.new.source ≡ self.old.source }
-        ensures asked { IfFound (Found (S.wide self.old.source) (Of (S.wide self.old.source) (S.plan self.old.source)) pins.now none.now place.new) (NotFound (S.wide self.old.source) (Of (S.wide self.old.source) (S.plan self.old.source)) pins.now none.now) (PinnedBy self.old.table statement way place.new self.new.table) self.old.table self.new.table result }
-    {
-        if !ask(&self.source, pins, none, place) {
-            return Err(SheetRefusal::NoPlan);
-        }
-        self.table.repin(statement, way, place);
-        Ok(())
+        let plan = ask(&self.source, &self.table.lines.pins(), marks);
+        self.table.settle(plan, marks);
+        before - self.table.count(Word::Open)
     }
 }

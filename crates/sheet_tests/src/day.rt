@@ -14,7 +14,7 @@ fn begins(rt: HostRuntime) -> Result<(), Fail> {
     let mut plans = Listed::none();
     plans.lend(4, 3, &PLANS)?;
     let mut sheet = Sheet::new(plans);
-    assert_eq!(rt; sheet.begin(&[1, 1, 1, 0]), Ok(()));
+    sheet.begin(&[1, 1, 1, 0])?;
     assert_eq!(rt; sheet.tell(0), Ok(Word::Open));
     assert_eq!(rt; sheet.tell(1), Ok(Word::Loose));
     assert_eq!(rt; sheet.tell(3), Err(SheetRefusal::Candidate));
@@ -35,7 +35,7 @@ fn settles_a_group(rt: HostRuntime) -> Result<(), Fail> {
     let mut plans = Listed::none();
     plans.lend(4, 3, &PLANS)?;
     let mut sheet = Sheet::new(plans);
-    assert_eq!(rt; sheet.begin(&[1, 1, 1, 1]), Ok(()));
+    sheet.begin(&[1, 1, 1, 1])?;
     assert_eq!(rt; sheet.settle(&[0, 0, 1, 0]), Ok(1));
     assert_eq!(rt; sheet.tell(2), Ok(Word::Loose));
     assert_eq!(rt; sheet.settle(&[1, 0, 0, 1]), Ok(1));
@@ -51,7 +51,7 @@ fn pins_read_anew(rt: HostRuntime) -> Result<(), Fail> {
     let mut plans = Listed::none();
     plans.lend(4, 3, &PLANS)?;
     let mut sheet = Sheet::new(plans);
-    assert_eq!(rt; sheet.begin(&[1, 1, 1, 1]), Ok(()));
+    sheet.begin(&[1, 1, 1, 1])?;
     assert_eq!(rt; sheet.settle_by("over", 0), Ok(1));
     assert_eq!(rt; sheet.settle_by("over", 0), Ok(1));
     assert_eq!(rt; sheet.settle_by("over", 0), Ok(1));
@@ -63,7 +63,7 @@ fn pins_read_anew(rt: HostRuntime) -> Result<(), Fail> {
             loose: 3,
         })
     );
-    assert_eq!(rt; sheet.pin(1, 1), Ok(()));
+    sheet.pin(1, 1)?;
     assert_eq!(rt; sheet.tell(1), Ok(Word::Certain));
     assert_eq!(rt; sheet.tell(2), Ok(Word::Open));
     assert_eq!(rt; sheet.tell(3), Ok(Word::Certain));
@@ -78,7 +78,7 @@ fn chunks(rt: HostRuntime) -> Result<(), Fail> {
     let mut plans = Listed::none();
     plans.lend(3, 1, &[1, 1, 1])?;
     let mut sheet = Sheet::new(plans);
-    assert_eq!(rt; sheet.begin(&[1, 1, 1]), Ok(()));
+    sheet.begin(&[1, 1, 1])?;
     assert_eq!(rt; sheet.settle_by("chunk", 1), Ok(1));
     assert_eq!(rt; sheet.tell(0), Ok(Word::Certain));
     assert_eq!(rt; sheet.tell(1), Ok(Word::Open));
@@ -106,16 +106,16 @@ fn runs_a_list(rt: HostRuntime) -> Result<(), Fail> {
         Call::Tell(0),
         Call::Pin(0, 1),
     ];
-    let mut replies = [Reply::Done; 4];
+    let mut replies = [Ok(Reply::Done); 4];
     let (sheet, made) = run(plans, &calls, &mut replies);
     assert_eq!(rt; made, 4);
     assert_eq!(rt;
         replies,
         [
-            Reply::Refused(SheetRefusal::Unbegun),
-            Reply::Done,
-            Reply::Settled(1),
-            Reply::Told(Word::Loose),
+            Err(SheetRefusal::Unbegun),
+            Ok(Reply::Done),
+            Ok(Reply::Settled(1)),
+            Ok(Reply::Told(Word::Loose)),
         ]
     );
     assert_eq!(rt; sheet.tell(0), Ok(Word::Loose));

@@ -8,7 +8,7 @@ fn none(rt: HostRuntime) -> Result<(), Fail> {
     let mut plans = Listed::none();
     plans.lend(0, 1, &[])?;
     let mut sheet = Sheet::new(plans);
-    assert_eq!(rt; sheet.begin(&[]), Ok(()));
+    sheet.begin(&[])?;
     assert_eq!(rt;
         sheet.tally(),
         Ok(Tally {
@@ -29,8 +29,8 @@ fn as_many_as_lines(rt: HostRuntime) -> Result<(), Fail> {
     let mut plans = Listed::none();
     plans.lend(512, 1, &row)?;
     let mut sheet = Sheet::new(plans);
-    assert_eq!(rt; sheet.begin(&row), Ok(()));
-    assert_eq!(rt; sheet.pin(511, 1), Ok(()));
+    sheet.begin(&row)?;
+    sheet.pin(511, 1)?;
     assert_eq!(rt; sheet.tell(511), Ok(Word::Certain));
     assert_eq!(rt; sheet.settle_by("over", 0), Ok(511));
     assert_eq!(rt;

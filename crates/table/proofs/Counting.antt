@@ -1,11 +1,13 @@
 -- Counting lines, and marking the lowest.
-use Rattle.std.proofs.Common.{◌≡◌, ℕ, ◌+◌, ◌<◌, ◌≤◌, Bool, true, false, cond, eqb, ltb, List, length, get_or, set, sym, ap, ◌∙◌, ⊎_elim, add-one, arith, eq-eqb}
-use borrow.Author.Tests.{both_ways}
-use Rattle.std.proofs.lemmas.Bool.{cases_eq}
+use Rattle.std.proofs.Common.{◌≡◌, ℕ, zero, suc, ◌+◌, ◌<◌, ◌≤◌, Bool, true, false, cond, ltb, ◌⊎◌, List, length, get_or, take, set, refl, sym, ap, ◌∙◌, inl, inr, ⊎_elim, add-one, arith}
+use Rattle.std.proofs.lemmas.Bool.{cases_Bool, cases_eq}
 use Rattle.std.proofs.lemmas.List.{length-set, get_or-set_same, get_or-set_other}
+use Rattle.std.specs.List.{count_by}
+use Rattle.std.proofs.lemmas.List.Sums.{count_by_more_yes, count_by_more_no}
+use Rattle.uses.proofs.Law.{bit_one, bit_none}
 use Rattle.uses.specs.Model.{counted_by}
 use Rattle.table.specs.declared.line.Line.{Line}
-use Rattle.table.specs.Blank.{line_at}
+use Rattle.table.specs.Blank.{blank, line_at}
 use Rattle.uses.specs.declared.Word.TheVariants.{Open}
 use Rattle.table.specs.Lineup.{line_has, lowest_of}
 
@@ -26,12 +28,24 @@ count_more f n i r b l s t e =
     let m = counted_more f i in
     (omega arith, omega arith)
 
-pub not_none : (n : ℕ) → false ≡ eqb n 0 → n ≡ 0 → ⊥
-not_none n e z = both_ways (eqb n 0) (sym e) (eq-eqb n 0 z)
+-- a count of the first lines, by their numbers
+pub counted : (p : Line → Bool) (rows : List Line) (w : ℕ) → w ≤ length rows → count_by p (take w rows) ≡ counted_by (λ k. p (line_at rows k)) w
+counted p rows zero h = refl
+counted p rows (suc w) h = ap (λ n. count_by p (take n rows)) (sym (add-one w)) ∙ go (counted p rows w (omega arith)) (cases_Bool (p (line_at rows w)))
+  where
+    go : count_by p (take w rows) ≡ counted_by (λ k. p (line_at rows k)) w → (p (line_at rows w) ≡ true) ⊎ (p (line_at rows w) ≡ false) → count_by p (take (w + 1) rows) ≡ cond (p (line_at rows w)) 1 0 + counted_by (λ k. p (line_at rows k)) w
+    go e (inl t) =
+        let b = bit_one (p (line_at rows w)) t in
+        let m = count_by_more_yes p rows w blank (omega arith) t in
+        omega arith
+    go e (inr f) =
+        let b = bit_none (p (line_at rows w)) f in
+        let m = count_by_more_no p rows w blank (omega arith) f in
+        omega arith
 
 -- one mark more
 pub lowest_more
-    : (rows : List Line) (limit i n v r : ℕ) (marks : List ℕ) (b : Bool)
+    : (rows : List Line) (limit i n v : ℕ) (marks : List ℕ) (b : Bool)
     → i < 512 → length marks ≡ 512
     → n ≡ counted_by (λ j. line_has Open (line_at rows j)) i
     → ((k : ℕ) → k < i → get_or marks k 0 ≡ cond (lowest_of rows limit k) 1 0)
@@ -40,7 +54,7 @@ pub lowest_more
     → (length (set marks i v) ≡ 512)
     × ((k : ℕ) → k < i + 1 → get_or (set marks i v) k 0 ≡ cond (lowest_of rows limit k) 1 0)
     × ((k : ℕ) → i + 1 ≤ k → get_or (set marks i v) k 0 ≡ 0)
-lowest_more rows limit i n v r marks b h l c f g t e = (
+lowest_more rows limit i n v marks b h l c f g t e = (
   simp length-set l,
   (λ k x. ⊎_elim
       (λ (q : k ≡ i). ap (λ y. get_or (set marks i v) y 0) q ∙ get_or-set_same marks i v 0 (omega arith) ∙ here ∙ sym (ap (λ y. cond (lowest_of rows limit y) 1 0) q))

@@ -1,10 +1,23 @@
 -- Lines as the calls leave them.
-use Rattle.std.specs.Prelude.{ℕ, Bool, false, cond, List, ◌==◌, nat_lt}
+use Rattle.std.specs.Prelude.{ℕ, Bool, false, cond, List, Option, Some, None, ◌==◌, nat_lt, slice_index}
+use Rattle.std.specs.Option.{option_or}
 use Rattle.uses.specs.Model.{word_number, counted_by}
+use Rattle.uses.specs.Way.{pin_number}
+use Rattle.uses.specs.declared.Way.{Way}
 use Rattle.uses.specs.declared.Word.{Word}
 use Rattle.uses.specs.declared.Word.TheVariants.{Open, Certain, Loose}
 use Rattle.table.specs.declared.line.Line.{Line}
 use Rattle.table.specs.Blank.{line_at}
+
+-- the width over which a sheet was begun, 0 where it is not begun
+abbrev pub width_of : Option ℕ → ℕ
+width_of None = 0
+width_of (Some w) = w
+
+-- begun over the width w
+abbrev pub begun_over : Option ℕ → ℕ → Bool
+begun_over None w = false
+begun_over (Some v) w = v == w
 
 -- a candidate's line with the word v
 abbrev pub line_has : Word → Line → Bool
@@ -16,29 +29,34 @@ word_in byte = cond (byte == 2) Loose Open
 
 -- a line as a sheet begins, by its candidate mark and its byte in the plan
 abbrev pub begun_line : ℕ → ℕ → Line
-begun_line mark byte = record { candidate = (mark == 1); pin = 0; word = cond (mark == 1) (word_in byte) Open }
+begun_line mark byte = record { candidate = (mark == 1); pin = None; word = cond (mark == 1) (word_in byte) Open }
 
--- the word of a line after a settling; `found` says that a plan came
-abbrev pub settled_word : Bool → Line → ℕ → ℕ → Word
-settled_word found l byte mark =
-    cond found (cond (line_has Open l) (cond (byte == 2) Loose l.word) l.word) (cond (mark == 1) Certain l.word)
+-- the byte of the statement k in a plan, if a plan came
+abbrev pub byte_in : Option (List ℕ) → ℕ → Option ℕ
+byte_in None k = None
+byte_in (Some plan) k = Some (slice_index plan k)
+
+-- the word of a line after a settling, by its byte in the plan, if a plan came
+abbrev pub settled_word : Option ℕ → Line → ℕ → Word
+settled_word (Some byte) l mark = cond (line_has Open l) (cond (byte == 2) Loose l.word) l.word
+settled_word None l mark = cond (mark == 1) Certain l.word
 
 -- a line after a settling
-unfoldable pub settled_line : Bool → Line → ℕ → ℕ → Line
-settled_line found l byte mark = record { candidate = l.candidate; pin = l.pin; word = settled_word found l byte mark }
+abbrev pub settled_line : Option ℕ → Line → ℕ → Line
+settled_line byte l mark = record { candidate = l.candidate; pin = l.pin; word = settled_word byte l mark }
 
--- the word of a candidate after a pin that was kept; `here` says that it is the pinned one
-abbrev pub pinned_word : Bool → ℕ → Word → ℕ → Word
-pinned_word here way v byte =
-    cond (cond here (way == 1) false) Certain (cond (word_number v == word_number Certain) Certain (word_in byte))
+-- the word of a candidate after a pin that was kept, which is the line's own pin if there is one
+abbrev pub pinned_word : Option Way → Word → ℕ → Word
+pinned_word pin v byte =
+    cond (pin_number pin == 1) Certain (cond (word_number v == word_number Certain) Certain (word_in byte))
 
--- a line after a pin that was kept
-abbrev pub pinned_line : Bool → ℕ → Line → ℕ → Line
-pinned_line here way l byte =
+-- a line after a pin that was kept, which is the line's own pin if there is one
+abbrev pub pinned_line : Option Way → Line → ℕ → Line
+pinned_line pin l byte =
     record {
       candidate = l.candidate;
-      pin = cond here way l.pin;
-      word = cond l.candidate (pinned_word here way l.word byte) l.word;
+      pin = option_or pin l.pin;
+      word = cond l.candidate (pinned_word pin l.word byte) l.word;
     }
 
 -- line k is one of the lowest open ones, `limit` at most

@@ -1,5 +1,5 @@
-// Groups and pins in tables as long as the sheet's.
-ghost use Rattle.std.specs.Prelude.{◌≡◌, ℕ, ◌≤◌, length, replicate, slice_index};
+// Groups in tables as long as the sheet's.
+ghost use Rattle.std.specs.Prelude.{◌≡◌, ℕ, ◌≤◌, length, slice_index};
 
 use crate::line::LINES;
 
@@ -8,16 +8,7 @@ pub fn widened(group: &[u8]) -> [u8; LINES]
     requires { length group.now ≤ 512 }
     ensures { (k : ℕ) → slice_index result k ≡ slice_index group.now k }
 {
-    let mut marks = zeros();
-    for i in 0..group.len() {
-        marks[i] = group[i];
-    }
+    let mut marks = [0; LINES];
+    marks[..group.len()].copy_from_slice(group);
     marks
-}
-
-// Neither pins nor marks.
-pub fn zeros() -> [u8; LINES]
-    ensures { result ≡ replicate 512 0 }
-{
-    [0u8; LINES]
 }

@@ -1,27 +1,20 @@
 // A line of a sheet, one for each statement, and what each call makes of it.
 ghost use Rattle.std.specs.Prelude.{◌≡◌};
-ghost use Rattle.uses.specs.Model.{word_number};
-ghost use Rattle.table.specs.Lineup.{line_has, word_in, begun_line, settled_word, settled_line, pinned_word, pinned_line};
+ghost use Rattle.uses.specs.Way.{pin_number};
+ghost use Rattle.table.specs.Lineup.{line_has, word_in, begun_line, settled_line, pinned_word, pinned_line};
 
 use source::WIDTH_MAX;
-use uses::Word;
+use source::bytes::{FAILS, MARKED, UNDECIDED};
+use uses::{Way, Word};
 
 // How many lines a sheet has.
 pub const LINES: usize = WIDTH_MAX;
 
-// The byte of a marked statement in a group or among candidates.
-pub const MARKED: u8 = 1;
-
-// The bytes of a plan and the ways of a pin.
-pub const HOLDS: u8 = 1;
-
-pub const FAILS: u8 = 2;
-
-#[derive(Clone, Copy)]
+#[derive(Clone, Copy, Debug, PartialEq, Eq)]
 pub struct Line {
+    // Stays: a flag beside the word, since a settling may mark any line, and as an `Option<Word>` it would have to ask that it marks candidates alone.
     pub candidate: bool,
-    // 0 where the statement is not pinned
-    pub pin: u8,
+    pub pin: Option<Way>,
     pub word: Word,
 }
 
@@ -36,33 +29,13 @@ fn word_in(byte: u8) -> Word
     }
 }
 
-// The word of a line after a settling; `found` says that a plan came.
-fn settled_word(found: bool, line: Line, byte: u8, mark: u8) -> Word
-    ensures { result ≡ settled_word found line byte mark }
+// A candidate's word after a pin that was kept, which is its own pin if there is one.
+fn pinned_word(pin: Option<Way>, word: Word, byte: u8) -> Word
+    ensures { result ≡ pinned_word pin word byte }
 {
-    if found {
-        if line.has(Word::Open) && byte == FAILS {
-            Word::Loose
-        } else {
-            line.word
-        }
-    } else if mark == MARKED {
-        Word::Certain
-    } else {
-        line.word
-    }
-}
-
-// A candidate's word after a pin that was kept; `here` says that it is the pinned one.
-fn pinned_word(here: bool, way: u8, word: Word, byte: u8) -> Word
-    ensures { result ≡ pinned_word here way word byte }
-{
-    if here && way == HOLDS {
-        Word::Certain
-    } else if word.number() == Word::Certain.number() {
-        Word::Certain
-    } else {
-        word_in(byte)
+    match (pin, word) {
+        (Some(Way::Holds), _) | (_, Word::Certain) => Word::Certain,
+        _ => word_in(byte),
     }
 }
 
@@ -71,38 +44,49 @@ impl Line {
     pub fn has(&self, word: Word) -> bool
         ensures { result ≡ line_has word self.now }
     {
-        self.candidate && self.word.number() == word.number()
+        self.candidate && self.word == word
+    }
+
+    // Its pin as a byte of a partial.
+    pub fn pin_byte(&self) -> u8
+        ensures { result ≡ pin_number self.now.pin }
+    {
+        self.pin.map_or(UNDECIDED, |way| way.number())
     }
 
     // As a sheet begins.
     pub fn begin(&mut self, mark: u8, byte: u8)
         ensures { self.new ≡ begun_line mark byte }
     {
-        self.candidate = mark == MARKED;
-        self.pin = 0;
-        self.word = if mark == MARKED {
-            word_in(byte)
-        } else {
-            Word::Open
+        *self = Line {
+            candidate: mark == MARKED,
+            pin: None,
+            word: if mark == MARKED {
+                word_in(byte)
+            } else {
+                Word::Open
+            },
         };
     }
 
-    // As a settling leaves it.
-    pub fn settle(&mut self, found: bool, byte: u8, mark: u8)
-        ensures { self.new ≡ settled_line found self.old byte mark }
+    // As a settling leaves it, by its byte in the plan, if a plan came.
+    pub fn settle(&mut self, byte: Option<u8>, mark: u8)
+        ensures { self.new ≡ settled_line byte self.old mark }
     {
-        self.word = settled_word(found, *self, byte, mark);
+        match byte {
+            Some(FAILS) if self.has(Word::Open) => self.word = Word::Loose,
+            None if mark == MARKED => self.word = Word::Certain,
+            _ => {}
+        }
     }
 
-    // As a pin that was kept leaves it; `here` says that the line is the pinned one.
-    pub fn repin(&mut self, here: bool, way: u8, byte: u8)
-        ensures { self.new ≡ pinned_line here way self.old byte }
+    // As a pin that was kept leaves it, which is the line's own if there is one.
+    pub fn repin(&mut self, pin: Option<Way>, byte: u8)
+        ensures { self.new ≡ pinned_line pin self.old byte }
     {
-        if here {
-            self.pin = way;
-        }
+        self.pin = pin.or(self.pin);
         if self.candidate {
-            self.word = pinned_word(here, way, self.word, byte);
+            self.word = pinned_word(pin, self.word, byte);
         }
     }
 }

@@ -1,5 +1,6 @@
 -- The law over uses and what it stands on.
 pub mod Model
+pub mod Way
 pub mod Step
 pub mod Use
 pub mod Law

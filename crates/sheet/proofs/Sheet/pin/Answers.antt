@@ -1,36 +1,32 @@
-use Rattle.std.proofs.Common.{Ok, Err, sym, refl, subst, arith}
+use Rattle.std.proofs.Common.{Ok, Err, refl}
 use Rattle.checks.specs.Checks.{MayPin}
-use Rattle.source.specs.Plans.{Of, UpTo}
-use Rattle.table.proofs.Zeros.{zeros_few}
-use Rattle.table.proofs.Blanks.{tied}
+use Rattle.source.specs.Plans.{Of}
 use Rattle.sheet.specs.View.{Steps}
-use Rattle.sheet.proofs.Keeping.{law_continues}
-use Rattle.sheet.proofs.Pinning.{way_few, pinned_few}
+use Rattle.sheet.proofs.Keeping.{law_continues, checked}
 use Rattle.sheet.proofs.Rows
 use Rattle.sheet.proofs.Sheet.pin.Goals as goal
 
-pub returns-in_err-may_pin : goal.returns-in_err-may_pin
+pub returns-in_err-way : goal.returns-in_err-way
 unfolding Steps
-returns-in_err-may_pin g c =
-    let s = Rows.pin_refused (g.S.Source.wide c.args.self.now.source) (Of (g.S.Source.wide c.args.self.now.source) (g.S.Source.plan c.args.self.now.source)) c.args.self.now.table c.args.statement c.args.way c.from_residual.result c.in_err-may_pin.field-0.0 (Rows.err_is c.from_residual.result c.in_err-may_pin.field-0.0 c.from_residual.ensures.1) (subst (λ v. MayPin v c.args.self.now.table c.args.statement c.args.way (Err c.in_err-may_pin.field-0.0)) c.width.ensures.value c.in_err-may_pin.ensures) in
+returns-in_err-way g c =
+    let s =
+    Rows.pin_refused (g.S.Source.wide c.args.self.now.source) (Of (g.S.Source.wide c.args.self.now.source) (g.S.Source.plan c.args.self.now.source)) c.args.self.now.table c.args.statement c.args.way c.from_residual.result c.in_err-way.field-0.0 (Rows.err_is c.from_residual.result c.in_err-way.field-0.0 c.from_residual.ensures.1)
+    (checked (λ v t. MayPin v t c.args.statement c.args.way (Err c.in_err-way.field-0.0)) _ _ _ _ c.checks.ensures.width c.checks.ensures.table c.in_err-way.ensures) in
     record { source = refl; step = s; law = law_continues _ _ _ _ _ _ s }
 
-pub pin_lines-requires : goal.pin_lines-requires
-pin_lines-requires g c =
-    let may = (subst (λ v. MayPin v c.args.self.now.table c.args.statement c.args.way (Ok tt)) c.width.ensures.value c.in_ok-may_pin.ensures) in
-    let e = tied c.args.self.now.table.begun c.args.self.now.table.width (g.S.Source.wide c.args.self.now.source) may.1 in
-    record {
-      narrow = omega arith;
-      pins =
-          pinned_few (g.S.Source.wide c.args.self.now.source) c.args.self.now.table c.args.statement c.args.way e may.2 c.pins_with-pins.result
-          (way_few c.args.way may.0) c.pins_with-pins.ensures;
-      none = subst (UpTo 1) (sym c.zeros-none.ensures) (zeros_few 1 512);
-      inside = may.2;
-      way = way_few c.args.way may.0;
-    }
+pub returns-in_err-plan : goal.returns-in_err-plan
+unfolding Steps
+returns-in_err-plan g c =
+    let s =
+    Rows.pin_lost (g.S.Source.wide c.args.self.now.source) (Of (g.S.Source.wide c.args.self.now.source) (g.S.Source.plan c.args.self.now.source)) c.args.self.now.table c.args.statement c.args.way c.in_ok-way.way c.pins_with.result (checked (λ v t. MayPin v t c.args.statement c.args.way (Ok c.in_ok-way.way)) _ _ _ _ c.checks.ensures.width c.checks.ensures.table c.in_ok-way.ensures) c.pins_with.ensures
+    c.from_residual-in_err-plan.result c.in_err-plan.field-0.0
+    (Rows.err_is c.from_residual-in_err-plan.result c.in_err-plan.field-0.0 c.from_residual-in_err-plan.ensures.1) c.in_err-plan.ensures.0 c.in_err-plan.ensures.1 in
+    record { source = refl; step = s; law = law_continues _ _ _ _ _ _ s }
 
 pub returns : goal.returns
 unfolding Steps
 returns g c =
-    let s = Rows.pin_asked (g.S.Source.wide c.args.self.now.source) (Of (g.S.Source.wide c.args.self.now.source) (g.S.Source.plan c.args.self.now.source)) c.args.self.now.table c.args.statement c.args.way c.pin_lines.new.self.table c.pins_with-pins.result c.zeros-none.result c.pin_lines.new.place 512 c.pin_lines.result (subst (λ v. MayPin v c.args.self.now.table c.args.statement c.args.way (Ok tt)) c.width.ensures.value c.in_ok-may_pin.ensures) c.pins_with-pins.ensures c.zeros-none.ensures c.pin_lines.ensures.asked in
-    record { source = c.pin_lines.ensures.source; step = s; law = law_continues _ _ _ _ _ _ s }
+    let s =
+    Rows.pin_found (g.S.Source.wide c.args.self.now.source) (Of (g.S.Source.wide c.args.self.now.source) (g.S.Source.plan c.args.self.now.source)) c.args.self.now.table c.args.statement c.args.way c.in_ok-way.way c.pins_with.result
+    (checked (λ v t. MayPin v t c.args.statement c.args.way (Ok c.in_ok-way.way)) _ _ _ _ c.checks.ensures.width c.checks.ensures.table c.in_ok-way.ensures) c.pins_with.ensures c.repin.new.self c.in_ok-plan.plan c.in_ok-plan.ensures c.repin.ensures.over c.repin.ensures.lines in
+    record { source = refl; step = s; law = law_continues _ _ _ _ _ _ s }

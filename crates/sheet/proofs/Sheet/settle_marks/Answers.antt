@@ -1,21 +1,20 @@
+use Rattle.std.proofs.Common.{refl}
 use Rattle.source.specs.Plans.{Of}
 use Rattle.sheet.proofs.Settling.{all_done}
 use Rattle.sheet.proofs.Sheet.settle_marks.Goals as goal
 
-pub ceased-requires : goal.ceased-requires
-ceased-requires g c =
+pub overflow_sub-result : goal.overflow_sub-result
+overflow_sub-result g c =
     let d =
-    all_done (g.S.Source.wide c.args.self.now.source) (Of (g.S.Source.wide c.args.self.now.source) (g.S.Source.plan c.args.self.now.source)) (λ p q. q.1)
-    c.args.self.now.table c.settle_lines.new.self.table _ c.args.marks.now _ c.count-before.result c.count-after.result _
-    c.requires.begun c.requires.some c.count-before.ensures c.pins-pins.ensures c.settle_lines.ensures.asked c.settle_lines.ensures.lines
-    c.settle_lines.ensures.begun c.settle_lines.ensures.width c.count-after.ensures in
+    all_done (g.S.Source.wide c.args.self.now.source) (Of (g.S.Source.wide c.args.self.now.source) (g.S.Source.plan c.args.self.now.source)) (λ p q. q.1) c.args.self.now.table c.settle.new.self _ c.args.marks.now
+    c.count-before.result c.count.result c.ask-plan.result c.requires.begun c.requires.some c.count-before.ensures c.pins.ensures c.ask-plan.ensures c.settle.ensures.lines
+    c.settle.ensures.over c.count.ensures in
     d.fewer
 
 pub returns : goal.returns
 returns g c =
     let d =
-    all_done (g.S.Source.wide c.args.self.now.source) (Of (g.S.Source.wide c.args.self.now.source) (g.S.Source.plan c.args.self.now.source)) (λ p q. q.1)
-    c.args.self.now.table c.settle_lines.new.self.table _ c.args.marks.now _ c.count-before.result c.count-after.result _
-    c.requires.begun c.requires.some c.count-before.ensures c.pins-pins.ensures c.settle_lines.ensures.asked c.settle_lines.ensures.lines
-    c.settle_lines.ensures.begun c.settle_lines.ensures.width c.count-after.ensures in
-    record { source = c.settle_lines.ensures.source; rest = d.rest; settles = d.settles; count = d.counts c.ceased.result c.ceased.ensures }
+    all_done (g.S.Source.wide c.args.self.now.source) (Of (g.S.Source.wide c.args.self.now.source) (g.S.Source.plan c.args.self.now.source)) (λ p q. q.1) c.args.self.now.table c.settle.new.self _ c.args.marks.now
+    c.count-before.result c.count.result c.ask-plan.result c.requires.begun c.requires.some c.count-before.ensures c.pins.ensures c.ask-plan.ensures c.settle.ensures.lines
+    c.settle.ensures.over c.count.ensures in
+    record { source = refl; rest = d.rest; settles = d.settles; count = d.counts }

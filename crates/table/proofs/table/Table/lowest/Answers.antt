@@ -1,5 +1,7 @@
-use Rattle.std.proofs.Common.{refl, arith}
-use Rattle.table.specs.Blank.{line_at}
+use Rattle.std.proofs.Common.{rules, ◌≡◌, cond, ap, ◌∙◌, refl, arith}
+use Rattle.std.proofs.lemmas.List.{get_or-take, length-take}
+use Rattle.table.specs.declared.line.Line.{Line}
+use Rattle.table.specs.Blank.{blank, line_at}
 use Rattle.table.specs.Lineup.{line_has}
 use Rattle.table.proofs.Counting.{count_more, lowest_more}
 use Rattle.table.proofs.Zeros.{zeros_all}
@@ -11,9 +13,12 @@ loop-i-init c = (omega arith, refl, refl, (λ k h. absurd (omega arith)), λ k h
 
 pub loop-i-preserved : goal.loop-i-preserved
 loop-i-preserved c =
+    let is : c.has-open.result ≡ line_has Open (line_at c.args.self.now.lines.rows c.loop-i.i) =
+    c.has-open.ensures ∙ ap (line_has Open) (get_or-take c.width.result c.args.self.now.lines.rows c.loop-i.i blank (omega (arith, length-take {A = Line}))) in
+    let r : c.from-n.result ≡ cond c.has-open.result 1 0 = search rules in
     let n =
-    count_more (λ k. line_has Open (line_at c.args.self.now.lines.rows k)) _ _ _ _ c.loop-i.invariant.0 c.loop-i.invariant.1 c.has-open.ensures c.one_if-n.ensures in
+    count_more (λ k. line_has Open (line_at c.args.self.now.lines.rows k)) _ _ _ _ c.loop-i.invariant.0 c.loop-i.invariant.1 is r in
     let m =
-    lowest_more c.args.self.now.lines.rows c.args.limit c.loop-i.i c.loop-i.n c.lowest_mark.result 0 c.loop-i.marks c.has-open.result (omega arith) c.loop-i.invariant.2
-    c.loop-i.invariant.1 c.loop-i.invariant.3 c.loop-i.invariant.4 c.has-open.ensures c.lowest_mark.ensures in
+    lowest_more c.args.self.now.lines.rows c.args.limit c.loop-i.i c.loop-i.n c.lowest_mark.result c.loop-i.marks c.has-open.result (omega arith) c.loop-i.invariant.2
+    c.loop-i.invariant.1 c.loop-i.invariant.3 c.loop-i.invariant.4 is c.lowest_mark.ensures in
     (n.0, n.1, m.0, m.1, m.2)
