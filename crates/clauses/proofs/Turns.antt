@@ -1,9 +1,9 @@
 -- One clause's turn, and the loops over the tables.
-use Rattle.std.proofs.Common.{◌≡◌, Ok, Err, Result, ℕ, ◌+◌, ◌*◌, ◌<◌, Bool, true, false, List, length, get_or, sym, refl, ◌∙◌, subst, inl, inr, add-one, arith}
-use Rattle.std.proofs.lemmas.Bool.{cases_Bool, cases_eq, both_ways, and_from}
+use Rattle.std.proofs.Common.{◌≡◌, Ok, Err, Result, ℕ, ◌*◌, ◌<◌, Bool, true, false, List, length, get_or, sym, refl, ◌∙◌, subst, inl, inr, arith}
+use Rattle.std.proofs.lemmas.Bool.{cases_Bool, cases_eq, both_ways}
 use Rattle.source.specs.Plans.{Partial}
 use Rattle.base.proofs.Partials.{long}
-use Rattle.closing.specs.Sets.{contrary, holds, below, In, every_to, every_from, below_to, in_to, in_from}
+use Rattle.closing.specs.Sets.{contrary, holds, In, every_to, every_from, in_to, in_from}
 use Rattle.closing.specs.Forces.{KeptAt}
 use Rattle.closing.specs.Turns.{Turn, Made}
 use Rattle.closing.specs.declared.Clash.{Clash}
@@ -51,10 +51,3 @@ pub row_turn : (w : ℕ) (rs : List Run) (es : List ℕ) (k : ℕ) (p q : List �
 row_turn w rs es k p q (Ok false) l t = t
 row_turn w rs es k p q (Ok true) l t = t
 row_turn w rs es k p q (Err d) l t = λ C kc u. let b = t C kc u in (k, l, b.2)
-
--- all below i pass, and so does i
-pub below_step : (f : ℕ → Bool) (i : ℕ) → below i f ≡ true → f i ≡ true → below (i + 1) f ≡ true
-below_step f i a h = subst (λ n. below n f ≡ true) (sym (add-one i)) (and_from (f i) (below i f) h a)
-
-pub below_fails : (n : ℕ) (f : ℕ → Bool) (i : ℕ) → i < n → f i ≡ false → false ≡ below n f
-below_fails n f i l h = elim (cases_Bool (below n f)) [ inr q ↦ sym q | inl q ↦ absurd (both_ways _ h (below_to n f q i l)) ]

@@ -1,13 +1,13 @@
 -- Clauses are rules that make a base.
-use Rattle.std.specs.Prelude.{◌≡◌, ℕ, ◌+◌, ◌*◌, ◌/◌, ◌%◌, ◌<◌, ◌≤◌, Bool, true, false, not, ◌≢◌, List, length, ◌==◌, nat_le, nat_lt, slice_index, slice_index_or, refl}
+use Rattle.std.specs.Prelude.{◌≡◌, ℕ, ◌+◌, ◌*◌, ◌/◌, ◌%◌, ◌<◌, Bool, true, false, not, ◌≢◌, List, length, ◌==◌, slice_index, slice_index_or, refl}
 use Rattle.std.proofs.Common.{sym, ap, subst, inl, inr, arith}
-use Rattle.std.proofs.lemmas.Bool.{eqb-true, eqb-false, cases_Bool, cases_eq, and_parts, and_from, not-true, not_from_false, not-false, both_ways, eq-eqb, or_cases, or_left, or_right, ltb-true, leb-true}
+use Rattle.std.proofs.lemmas.Bool.{eqb-true, eqb-false, cases_Bool, cases_eq, and_parts, and_from, not-true, not_from_false, not-false, both_ways, eq-eqb, or_cases, or_left, or_right}
 use Rattle.source.specs.Plans.{Whole}
 use Rattle.base.proofs.Partials.{small, whole_partial, whole_decided}
-use Rattle.closing.specs.Sets.{contrary, holds, every, In, every_to, every_from, every_or, below_to, holds_once, Codes, in_to, part_codes}
+use Rattle.closing.specs.Sets.{contrary, holds, every, In, every_to, every_from, every_or, holds_once, Codes, in_to, part_codes}
 use Rattle.closing.specs.Forces.{Sound, Based}
 use Rattle.clauses.specs.declared.run.Run.{Run}
-use Rattle.clauses.specs.Clauses.{run0, clause_at, has, forces_one, contradicted, clause_forces, ClausePlan, runs_fit, codes_fit, clauses_ok}
+use Rattle.clauses.specs.Clauses.{run0, clause_at, has, forces_one, contradicted, clause_forces, ClausePlan, ClausesOk}
 
 pub has_to : (e : ℕ) (c : List ℕ) → has e c ≡ true → In e c
 has_to e c h = elim (every_or (λ f. not (f == e)) c) [
@@ -32,24 +32,6 @@ forces_from c D e m h = and_from (has e c) _ (has_from e c m) (every_from _ c (�
   | inr q ↦ or_right (f == e) _ (h f mf q)
 ]))
 
--- the limits, opened
-pub record ClausesOk (w : ℕ) (rs : List Run) (es : List ℕ) : Type 0 where
-  pub narrow : w ≤ 512
-  pub runs : (k : ℕ) → k < length rs → (slice_index_or rs k run0).first + (slice_index_or rs k run0).count ≤ length es
-  pub codes : Codes w es
-
-pub clauses_ok_lem : (w : ℕ) (rs : List Run) (es : List ℕ) → clauses_ok w rs es ≡ true → ClausesOk w rs es
-clauses_ok_lem w rs es h =
-    let a = and_parts (nat_le w 512) _ h in
-    let b = and_parts (nat_le (length rs) 2048) _ a.1 in
-    let c = and_parts (nat_le (length es) 8192) _ b.1 in
-    let d = and_parts (runs_fit rs (length es)) (codes_fit es w) c.1 in
-    record {
-      narrow = leb-true w 512 a.0;
-      runs = λ k l. leb-true _ _ (below_to (length rs) _ d.0 k l);
-      codes = λ k l. ltb-true _ _ (below_to (length es) (λ j. nat_lt (slice_index es j) (2 * w)) d.1 k l);
-    }
-
 contradicted_not : (c : List ℕ) (p : List ℕ) (e : ℕ) → In e c → holds p e ≡ true → contradicted c (holds p) ≡ false
 contradicted_not c p e m h = elim (cases_Bool (contradicted c (holds p))) [ inr q ↦ q | inl q ↦ absurd (holds_once p e h (every_to _ c q e m)) ]
 
@@ -64,10 +46,7 @@ either w p pp e l h =
     let b = whole_decided w p pp (e / 2) (omega arith) in
     eq-eqb _ _ (elim (cases_eq (slice_index p (e / 2)) (1 + e % 2)) [ inl q ↦ q | inr q ↦ absurd (n (omega arith)) ])
 
-module _ (w : ℕ) (rs : List Run) (es : List ℕ) (h : clauses_ok w rs es ≡ true) where
-  ok : ClausesOk w rs es
-  ok = clauses_ok_lem w rs es h
-
+module _ (w : ℕ) (rs : List Run) (es : List ℕ) (ok : ClausesOk w rs es) where
   pub clause_codes : (k : ℕ) → k < length rs → Codes w (clause_at rs es k)
   clause_codes k l = part_codes w es (slice_index_or rs k run0).first (slice_index_or rs k run0).count ok.codes (ok.runs k l)
 

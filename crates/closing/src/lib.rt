@@ -58,7 +58,7 @@ pub trait Rules {
 pub fn contrary_of(e: u16) -> u16
     ensures { result ≡ contrary e }
 {
-    if e % 2 == 0 { e + 1 } else { e - 1 }
+    e ^ 1
 }
 
 // Whether an entry holds in a partial, for turns.
