@@ -1,6 +1,6 @@
 -- One clause's turn, and the loops over the tables.
 use Rattle.std.proofs.Common.{◌≡◌, Ok, Err, Result, ℕ, ◌*◌, ◌<◌, Bool, true, false, List, length, get_or, sym, refl, ◌∙◌, subst, inl, inr, arith}
-use Rattle.std.proofs.lemmas.Bool.{cases_Bool, cases_eq, both_ways}
+use Rattle.std.proofs.lemmas.Bool.{false_from_ne_true, cases_eq, both_ways}
 use Rattle.source.specs.Plans.{Partial}
 use Rattle.base.proofs.Partials.{long}
 use Rattle.closing.specs.Sets.{contrary, holds, In, every_to, every_from, in_to, in_from}
@@ -17,7 +17,7 @@ use Rattle.clauses.specs.Sounds.{forces_to, forces_from}
 module _ (w : ℕ) (p c : List ℕ) where
   -- an entry that is not contradicted
   not_barred : (k : ℕ) → k < length c → holds p (contrary (get_or c k 0)) ≡ false → contradicted c (holds p) ≡ false
-  not_barred k l h = elim (cases_Bool (contradicted c (holds p))) [ inr q ↦ q | inl q ↦ absurd (both_ways _ h (every_to _ c q _ (in_from c k l))) ]
+  not_barred k l h = false_from_ne_true _ (λ all. both_ways _ h (every_to _ c all _ (in_from c k l)))
 
   pub turn_nothing : (d : Clash) → Lacks (λ e. holds p (contrary e)) c Nothing → Turn (one_clause w c) 0 p p (Err d)
   turn_nothing d all C k u = (0, omega arith, every_from _ c (λ f m. let i = in_to c f m in u (contrary f) (subst (λ z. holds p (contrary z) ≡ true) i.2 (all i.0 i.1))))

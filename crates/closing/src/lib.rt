@@ -55,6 +55,7 @@ pub trait Rules {
 }
 
 // The entry that says the contrary, for turns.
+// Stays: entries stand as codes in lent tables, so a type around each would be put on and taken off at every call.
 pub fn contrary_of(e: u16) -> u16
     ensures { result ≡ contrary e }
 {
