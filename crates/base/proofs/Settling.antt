@@ -1,8 +1,8 @@
 -- A case is settled by running through all rows.
-use Rattle.std.proofs.Common.{◌≡◌, ℕ, zero, suc, ◌+◌, ◌<◌, ◌≤◌, Bool, true, ◌&&◌, ◌||◌, eqb, ◌⊎◌, List, [], ◌∷◌, ◌++◌, map, get_or, sym, refl, ap, subst, inl, inr, arith}
+use Rattle.std.proofs.Common.{◌≡◌, ℕ, zero, suc, ◌+◌, ◌<◌, ◌≤◌, Bool, true, ◌&&◌, ◌||◌, eqb, ◌⊎◌, List, [], ◌∷◌, ◌++◌, map, filter, get_or, sym, refl, ap, subst, inl, inr, arith}
 use Rattle.std.proofs.lemmas.Bool.{eqb-true, eq-eqb, cases_Bool, cases_eq, and_parts, and_from, or_cases, or_left, or_right, cond-true, cond-false}
 use Rattle.source.specs.Plans.{Whole, Agrees}
-use Rattle.base.specs.Settled.{Among, Exactly, Settled, all_rows, agreeing, pick, picked, holds_in, sure_from}
+use Rattle.base.specs.Settled.{Among, Exactly, Settled, all_rows, agreeing, picked, holds_in, sure_from}
 
 among_left : {X : Type 0} (x : X) (xs ys : List X) → Among x xs → Among x (xs ++ ys)
 among_left x [] ys m = absurd m
@@ -58,23 +58,23 @@ rows_from (suc n) (b ∷ p) h =
       | inr e ↦ among_left _ (map (λ r. 2 ∷ r) (all_rows n)) (map (λ r. 1 ∷ r) (all_rows n)) (subst (λ z. Among (z ∷ p) (map (λ r. 2 ∷ r) (all_rows n))) (sym e) (among_map (λ r. 2 ∷ r) p (all_rows n) r))
     ]
 
-pick_to : (f : List ℕ → Bool) (rs : List (List ℕ)) (p : List ℕ) → Among p (pick f rs) → Among p rs × (f p ≡ true)
-pick_to f [] p m = absurd m
-pick_to f (r ∷ rs) p m = elim (cases_Bool (f r)) [
-  | inl t ↦ first (pick_to f rs p) (subst (Among p) (cond-true (f r) (r ∷ pick f rs) (pick f rs) t) m) t
-  | inr t ↦ (let x = pick_to f rs p (subst (Among p) (cond-false (f r) (r ∷ pick f rs) (pick f rs) t) m) in (inr x.0, x.1))
+filter_to : (f : List ℕ → Bool) (rs : List (List ℕ)) (p : List ℕ) → Among p (filter f rs) → Among p rs × (f p ≡ true)
+filter_to f [] p m = absurd m
+filter_to f (r ∷ rs) p m = elim (cases_Bool (f r)) [
+  | inl t ↦ first (filter_to f rs p) (subst (Among p) (cond-true (f r) (r ∷ filter f rs) (filter f rs) t) m) t
+  | inr t ↦ (let x = filter_to f rs p (subst (Among p) (cond-false (f r) (r ∷ filter f rs) (filter f rs) t) m) in (inr x.0, x.1))
 ]
   where
-    first : (Among p (pick f rs) → Among p rs × (f p ≡ true)) → Among p (r ∷ pick f rs) → f r ≡ true → Among p (r ∷ rs) × (f p ≡ true)
+    first : (Among p (filter f rs) → Among p rs × (f p ≡ true)) → Among p (r ∷ filter f rs) → f r ≡ true → Among p (r ∷ rs) × (f p ≡ true)
     first rest (inl e) t = (inl e, subst (λ z. f z ≡ true) e t)
     first rest (inr n) t = let x = rest n in (inr x.0, x.1)
 
-pick_from : (f : List ℕ → Bool) (rs : List (List ℕ)) (p : List ℕ) → Among p rs → f p ≡ true → Among p (pick f rs)
-pick_from f [] p m t = absurd m
-pick_from f (r ∷ rs) p (inl e) t = subst (Among p) (sym (cond-true (f r) (r ∷ pick f rs) (pick f rs) (subst (λ z. f z ≡ true) (sym e) t))) (inl e)
-pick_from f (r ∷ rs) p (inr m) t = elim (cases_Bool (f r)) [
-  | inl u ↦ subst (Among p) (sym (cond-true (f r) (r ∷ pick f rs) (pick f rs) u)) (inr (pick_from f rs p m t))
-  | inr u ↦ subst (Among p) (sym (cond-false (f r) (r ∷ pick f rs) (pick f rs) u)) (pick_from f rs p m t)
+filter_from : (f : List ℕ → Bool) (rs : List (List ℕ)) (p : List ℕ) → Among p rs → f p ≡ true → Among p (filter f rs)
+filter_from f [] p m t = absurd m
+filter_from f (r ∷ rs) p (inl e) t = subst (Among p) (sym (cond-true (f r) (r ∷ filter f rs) (filter f rs) (subst (λ z. f z ≡ true) (sym e) t))) (inl e)
+filter_from f (r ∷ rs) p (inr m) t = elim (cases_Bool (f r)) [
+  | inl u ↦ subst (Among p) (sym (cond-true (f r) (r ∷ filter f rs) (filter f rs) u)) (inr (filter_from f rs p m t))
+  | inr u ↦ subst (Among p) (sym (cond-false (f r) (r ∷ filter f rs) (filter f rs) u)) (filter_from f rs p m t)
 ]
 
 agrees_to : (pins p : List ℕ) → agreeing pins p ≡ true → Agrees pins p
@@ -132,7 +132,7 @@ settle w plan test to from pins rows sure e f = record {
   where
     exactly : Exactly plan pins rows
     exactly p = (
-      (λ pl ag. let t = to p pl in subst (Among p) e (pick_from (λ r. test r && agreeing pins r) (all_rows w) p (rows_from w p t.0) (and_from _ _ t.1 (agrees_from pins p ag)))),
-      (λ m. let r = pick_to (λ r. test r && agreeing pins r) (all_rows w) p (subst (Among p) (sym e) m) in
+      (λ pl ag. let t = to p pl in subst (Among p) e (filter_from (λ r. test r && agreeing pins r) (all_rows w) p (rows_from w p t.0) (and_from _ _ t.1 (agrees_from pins p ag)))),
+      (λ m. let r = filter_to (λ r. test r && agreeing pins r) (all_rows w) p (subst (Among p) (sym e) m) in
           let b = and_parts (test p) _ r.1 in (from p (rows_to w p r.0) b.0, agrees_to pins p b.1)),
     )

@@ -4,7 +4,8 @@
 --   Certain   a statement holds in every plan that agrees with the pins
 --   Settled   the plans, and which statements are certain
 --   all_rows, agreeing, picked, sure_from   the same by computation
-use Rattle.std.specs.Prelude.{◌≡◌, ℕ, zero, suc, ◌<◌, Bool, true, cond, ◌&&◌, ◌||◌, ◌⊎◌, List, [], ◌∷◌, ◌++◌, map, ◌==◌, slice_index}
+use Rattle.std.specs.Prelude.{◌≡◌, ℕ, zero, suc, ◌<◌, Bool, true, cond, ◌&&◌, ◌||◌, ◌⊎◌, List, [], ◌∷◌, ◌++◌, map, filter, ◌==◌, slice_index}
+use Rattle.std.specs.List.{list_all}
 use Rattle.source.specs.Plans.{Agrees}
 
 -- the list has x
@@ -36,19 +37,13 @@ agreeing [] p = true
 agreeing (b ∷ bs) [] = b == 0 && agreeing bs []
 agreeing (b ∷ bs) (x ∷ p) = (b == 0 || x == b) && agreeing bs p
 
--- those that pass the test
-abbrev pub pick : (List ℕ → Bool) → List (List ℕ) → List (List ℕ)
-pick f [] = []
-pick f (r ∷ rs) = cond (f r) (r ∷ pick f rs) (pick f rs)
-
 -- the rows that pass the test and agree with the pins
 abbrev pub picked : ℕ → (List ℕ → Bool) → List ℕ → List (List ℕ)
-picked w test pins = pick (λ r. test r && agreeing pins r) (all_rows w)
+picked w test pins = filter (λ r. test r && agreeing pins r) (all_rows w)
 
 -- s holds in every row
 abbrev pub holds_in : ℕ → List (List ℕ) → Bool
-holds_in s [] = true
-holds_in s (r ∷ rs) = slice_index r s == 1 && holds_in s rs
+holds_in s rows = list_all (λ r. slice_index r s == 1) rows
 
 -- the n statements from s on that hold in every row
 abbrev pub sure_from : ℕ → ℕ → List (List ℕ) → List ℕ

@@ -1,7 +1,7 @@
 -- Clauses: sets of entries, of which one at least must hold.
-use Rattle.std.specs.Prelude.{◌≡◌, ℕ, ◌+◌, ◌*◌, ◌<◌, Bool, true, not, ◌&&◌, ◌||◌, List, length, take, drop, ◌==◌, nat_le, nat_lt, slice_index, slice_index_or}
+use Rattle.std.specs.Prelude.{◌≡◌, ℕ, ◌+◌, ◌<◌, ◌≤◌, Bool, true, not, ◌&&◌, ◌||◌, List, length, take, drop, ◌==◌, slice_index_or}
 use Rattle.source.specs.Plans.{Whole}
-use Rattle.closing.specs.Sets.{contrary, holds, every, below, In}
+use Rattle.closing.specs.Sets.{contrary, holds, every, In, Codes}
 use Rattle.closing.specs.Forces.{Forces}
 use Rattle.clauses.specs.declared.run.Run.{Run}
 
@@ -39,13 +39,13 @@ pub record ClausePlan (w : ℕ) (rs : List Run) (es p : List ℕ) : Type 0 where
   pub each : (k : ℕ) → k < length rs → (e : ℕ) × In e (clause_at rs es k) × (holds p e ≡ true)
 
 -- each run lies among the m entries
-abbrev pub runs_fit : List Run → ℕ → Bool
-runs_fit rs m = below (length rs) (λ k. nat_le ((slice_index_or rs k run0).first + (slice_index_or rs k run0).count) m)
+abbrev pub RunsFit : List Run → ℕ → Type 0
+RunsFit rs m = (k : ℕ) → k < length rs → (slice_index_or rs k run0).first + (slice_index_or rs k run0).count ≤ m
 
--- each entry names a statement below the width
-abbrev pub codes_fit : List ℕ → ℕ → Bool
-codes_fit es w = below (length es) (λ k. nat_lt (slice_index es k) (2 * w))
-
--- the limits of a clause list: its width, counts, runs and entries
-abbrev pub clauses_ok : ℕ → List Run → List ℕ → Bool
-clauses_ok w rs es = nat_le w 512 && (nat_le (length rs) 2048 && (nat_le (length es) 8192 && (runs_fit rs (length es) && codes_fit es w)))
+-- the limits of a clause list: its width, its counts, each run among the entries, and each entry naming a statement below the width
+pub record ClausesOk (w : ℕ) (rs : List Run) (es : List ℕ) : Type 0 where
+  pub narrow : w ≤ 512
+  pub few : length rs ≤ 2048
+  pub short : length es ≤ 8192
+  pub runs : RunsFit rs (length es)
+  pub codes : Codes w es

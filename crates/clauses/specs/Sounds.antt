@@ -1,25 +1,18 @@
 -- Clauses are rules that make a base.
-use Rattle.std.specs.Prelude.{◌≡◌, ℕ, ◌+◌, ◌*◌, ◌/◌, ◌%◌, ◌<◌, ◌≤◌, Bool, true, false, not, ◌≢◌, List, length, ◌==◌, nat_le, nat_lt, slice_index, slice_index_or, refl}
-use Rattle.std.proofs.Common.{sym, ap, subst, inl, inr, arith}
-use Rattle.std.proofs.lemmas.Bool.{eqb-true, eqb-false, cases_Bool, cases_eq, and_parts, and_from, not-true, not_from_false, not-false, both_ways, eq-eqb, or_cases, or_left, or_right, ltb-true, leb-true}
-use Rattle.source.specs.Plans.{Whole}
-use Rattle.base.proofs.Partials.{small, whole_partial, whole_decided}
-use Rattle.closing.specs.Sets.{contrary, holds, every, In, every_to, every_from, every_or, below_to, holds_once, Codes, in_to, part_codes}
+use Rattle.std.specs.Prelude.{◌≡◌, ℕ, ◌*◌, ◌<◌, Bool, true, false, ◌≢◌, List, length, ◌==◌, slice_index_or, refl}
+use Rattle.std.proofs.Common.{sym, subst, inl, inr}
+use Rattle.std.proofs.lemmas.Bool.{false_from_ne_true, eqb-true, cases_eq, and_parts, and_from, both_ways, eq-eqb, or_cases, or_left, or_right}
+use Rattle.closing.specs.Sets.{contrary, holds, In, every_to, every_from, every_or, some_to, some_from, holds_once, Codes, in_to, part_codes}
 use Rattle.closing.specs.Forces.{Sound, Based}
+use Rattle.closing.specs.Closures.{either}
 use Rattle.clauses.specs.declared.run.Run.{Run}
-use Rattle.clauses.specs.Clauses.{run0, clause_at, has, forces_one, contradicted, clause_forces, ClausePlan, runs_fit, codes_fit, clauses_ok}
+use Rattle.clauses.specs.Clauses.{run0, clause_at, has, forces_one, contradicted, clause_forces, ClausePlan, ClausesOk}
 
 pub has_to : (e : ℕ) (c : List ℕ) → has e c ≡ true → In e c
-has_to e c h = elim (every_or (λ f. not (f == e)) c) [
-  | inl all ↦ absurd (both_ways _ (not-true _ h) (every_from _ c all))
-  | inr x ↦ subst (λ z. In z c) (eqb-true x.0 e (not-false _ x.2)) x.1
-]
+has_to e c h = let x = some_to (λ f. f == e) c h in subst (λ z. In z c) (eqb-true x.0 e x.2) x.1
 
 pub has_from : (e : ℕ) (c : List ℕ) → In e c → has e c ≡ true
-has_from e c m = elim (cases_Bool (every (λ f. not (f == e)) c)) [
-  | inl all ↦ absurd (both_ways _ (not-true _ (every_to (λ f. not (f == e)) c all e m)) (eq-eqb e e refl))
-  | inr q ↦ not_from_false _ q
-]
+has_from e c m = some_from (λ f. f == e) c e m (eq-eqb e e refl)
 
 -- what a clause forces, opened
 pub forces_to : (c : List ℕ) (D : ℕ → Bool) (e : ℕ) → forces_one c D e ≡ true → In e c × ((f : ℕ) → In f c → f ≢ e → D (contrary f) ≡ true)
@@ -32,42 +25,10 @@ forces_from c D e m h = and_from (has e c) _ (has_from e c m) (every_from _ c (�
   | inr q ↦ or_right (f == e) _ (h f mf q)
 ]))
 
--- the limits, opened
-pub record ClausesOk (w : ℕ) (rs : List Run) (es : List ℕ) : Type 0 where
-  pub narrow : w ≤ 512
-  pub runs : (k : ℕ) → k < length rs → (slice_index_or rs k run0).first + (slice_index_or rs k run0).count ≤ length es
-  pub codes : Codes w es
-
-pub clauses_ok_lem : (w : ℕ) (rs : List Run) (es : List ℕ) → clauses_ok w rs es ≡ true → ClausesOk w rs es
-clauses_ok_lem w rs es h =
-    let a = and_parts (nat_le w 512) _ h in
-    let b = and_parts (nat_le (length rs) 2048) _ a.1 in
-    let c = and_parts (nat_le (length es) 8192) _ b.1 in
-    let d = and_parts (runs_fit rs (length es)) (codes_fit es w) c.1 in
-    record {
-      narrow = leb-true w 512 a.0;
-      runs = λ k l. leb-true _ _ (below_to (length rs) _ d.0 k l);
-      codes = λ k l. ltb-true _ _ (below_to (length es) (λ j. nat_lt (slice_index es j) (2 * w)) d.1 k l);
-    }
-
 contradicted_not : (c : List ℕ) (p : List ℕ) (e : ℕ) → In e c → holds p e ≡ true → contradicted c (holds p) ≡ false
-contradicted_not c p e m h = elim (cases_Bool (contradicted c (holds p))) [ inr q ↦ q | inl q ↦ absurd (holds_once p e h (every_to _ c q e m)) ]
+contradicted_not c p e m h = false_from_ne_true _ (λ all. holds_once p e h (every_to _ c all e m))
 
--- in a whole partial an entry holds or is contradicted
-either : (w : ℕ) (p : List ℕ) → Whole w p → (e : ℕ) → e < 2 * w → (holds p (contrary e) ≡ false) → holds p e ≡ true
-either w p pp e l h =
-    let n = eqb-false _ _ h in
-    let hf : contrary e / 2 ≡ e / 2 = omega arith in
-    let sd : contrary e % 2 + e % 2 ≡ 1 = omega arith in
-    let y = ap (λ k. slice_index p k) hf in
-    let a = small w p (whole_partial w p pp) (e / 2) in
-    let b = whole_decided w p pp (e / 2) (omega arith) in
-    eq-eqb _ _ (elim (cases_eq (slice_index p (e / 2)) (1 + e % 2)) [ inl q ↦ q | inr q ↦ absurd (n (omega arith)) ])
-
-module _ (w : ℕ) (rs : List Run) (es : List ℕ) (h : clauses_ok w rs es ≡ true) where
-  ok : ClausesOk w rs es
-  ok = clauses_ok_lem w rs es h
-
+module _ (w : ℕ) (rs : List Run) (es : List ℕ) (ok : ClausesOk w rs es) where
   pub clause_codes : (k : ℕ) → k < length rs → Codes w (clause_at rs es k)
   clause_codes k l = part_codes w es (slice_index_or rs k run0).first (slice_index_or rs k run0).count ok.codes (ok.runs k l)
 

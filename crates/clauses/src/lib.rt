@@ -1,100 +1,90 @@
 // Clause lists over lent runs and entries, as rules that force decisions.
 #![tactic(auto)]
 
-ghost use Rattle.std.specs.Prelude.{◌≡◌, ℕ, ◌+◌, ◌*◌, ◌<◌, ◌≤◌, List, [], length, if◌then◌else◌};
+ghost use Rattle.std.specs.Prelude.{◌≡◌, ℕ, ◌+◌, ◌*◌, ◌<◌, ◌≤◌, List, [], length, ◌↔◌, IsTrue, IfOk, OnOk, OnErr};
 ghost use Rattle.source.specs.Plans.{Partial};
 ghost use Rattle.closing.specs.Turns.{Turn};
 ghost use Rattle.closing.specs.Sets.{holds, contrary, Codes};
-ghost use Rattle.clauses.specs.Clauses.{clauses_ok, runs_fit, codes_fit, one_clause, clause_forces, ClausePlan};
+ghost use Rattle.clauses.specs.Clauses.{ClausesOk, RunsFit, clause_at, one_clause, clause_forces, ClausePlan};
 ghost use Rattle.clauses.specs.Sounds.{clause_sound, clause_based};
-ghost use Rattle.clauses.specs.Listing.{Lacks, Answered, number_of};
+ghost use Rattle.clauses.specs.Listing.{number_of};
 
-use closing::{Rules, Step, contrary_of, decide, entry_holds};
+use closing::{Clash, Few, Rules, Turned, contrary_of, decide, entry_holds, exceptions};
 use list::ClauseList;
 use run::Run;
+use source::WIDTH_MAX;
 
 pub mod cases;
 pub mod list;
 pub mod run;
-
-const WIDTH_MAX: usize = 512;
 
 const CLAUSES_MAX: usize = 2048;
 
 const ENTRIES_MAX: usize = 8192;
 
 // Why clauses are not taken: a width, count, run or entry is outside its limits.
-#[derive(Clone, Copy)]
+#[derive(Clone, Copy, Debug, PartialEq, Eq)]
 pub enum ClauseRefusal {
-    Limits,
-}
-
-// The entries of a clause that are not contradicted.
-#[derive(Clone, Copy)]
-enum Remaining {
-    Nothing,
-    One(u16),
-    Several,
+    Limits = 28,
 }
 
 impl ClauseRefusal {
     pub fn number(self) -> u8
         ensures { result ≡ number_of self }
     {
-        match self {
-            ClauseRefusal::Limits => 28,
-        }
+        self as u8
     }
 }
 
 // Whether each run lies among n entries.
 fn runs_fit(runs: &[Run], n: usize) -> bool
-    ensures { result ≡ runs_fit runs.now n }
+    ensures { IsTrue result ↔ RunsFit runs.now n }
 {
-    for k in 0..runs.len() {
-        let r = runs[k];
-        if r.first as usize + r.count as usize > n {
-            return false;
-        }
-    }
-    true
+    runs.iter().all(|run| run.end() <= n)
 }
 
 // Whether each entry names a statement below the width.
 fn codes_fit(entries: &[u16], width: usize) -> bool
     requires { width ≤ 512 }
-    ensures { result ≡ codes_fit entries.now width }
+    ensures { IsTrue result ↔ Codes width entries.now }
 {
-    for k in 0..entries.len() {
-        if entries[k] as usize >= 2 * width {
-            return false;
-        }
-    }
-    true
+    entries.iter().all(|&entry| (entry as usize) < 2 * width)
 }
 
 // Whether width, counts, runs and entries are within their limits.
 fn list_fits(width: usize, runs: &[Run], entries: &[u16]) -> bool
-    ensures { result ≡ clauses_ok width runs.now entries.now }
+    ensures { IsTrue result ↔ ClausesOk width runs.now entries.now }
 {
-    if width > WIDTH_MAX {
-        return false;
-    }
-    if runs.len() > CLAUSES_MAX {
-        return false;
-    }
-    if entries.len() > ENTRIES_MAX {
-        return false;
-    }
-    if !runs_fit(runs, entries.len()) {
-        return false;
-    }
-    codes_fit(entries, width)
+    width <= WIDTH_MAX
+        && runs.len() <= CLAUSES_MAX
+        && entries.len() <= ENTRIES_MAX
+        && runs_fit(runs, entries.len())
+        && codes_fit(entries, width)
 }
 
-impl<'a, 'b> ClauseList<'a, 'b> {
+impl<'a> ClauseList<'a> {
+    // The clauses lent, if they are within the limits.
+    pub fn new(
+        width: usize,
+        runs: &'a [Run],
+        entries: &'a [u16],
+    ) -> Result<ClauseList<'a>, ClauseRefusal>
+        ensures taken { IfOk result (λ list. ClausesOk width runs.now entries.now × (list.width ≡ width) × (list.runs.now ≡ runs.now) × (list.entries.now ≡ entries.now)) }
+        ensures refused { OnErr result (¬ ClausesOk width runs.now entries.now) }
+    {
+        if list_fits(width, runs, entries) {
+            Ok(ClauseList {
+                width,
+                runs,
+                entries,
+            })
+        } else {
+            Err(ClauseRefusal::Limits)
+        }
+    }
+
     // No statements and no clauses, to be filled by `lend`.
-    pub fn empty() -> ClauseList<'a, 'b>
+    pub fn empty() -> ClauseList<'a>
         ensures width { result.width ≡ 0 }
         ensures runs { result.runs.now ≡ [] }
         ensures entries { result.entries.now ≡ [] }
@@ -111,68 +101,40 @@ impl<'a, 'b> ClauseList<'a, 'b> {
         &mut self,
         width: usize,
         runs: &'a [Run],
-        entries: &'b [u16],
+        entries: &'a [u16],
     ) -> Result<(), ClauseRefusal>
-        ensures answer { Answered width runs.now entries.now result }
-        ensures width { self.new.width ≡ (if clauses_ok width runs.now entries.now then width else self.old.width) }
-        ensures runs { self.new.runs.now ≡ (if clauses_ok width runs.now entries.now then runs.now else self.old.runs.now) }
-        ensures entries { self.new.entries.now ≡ (if clauses_ok width runs.now entries.now then entries.now else self.old.entries.now) }
+        ensures taken { OnOk result (ClausesOk width runs.now entries.now × (self.new.width ≡ width) × (self.new.runs.now ≡ runs.now) × (self.new.entries.now ≡ entries.now)) }
+        ensures refused { OnErr result ((¬ ClausesOk width runs.now entries.now) × (self.new ≡ self.old)) }
     {
-        if list_fits(width, runs, entries) {
-            *self = ClauseList {
-                width,
-                runs,
-                entries,
-            };
-            Ok(())
-        } else {
-            Err(ClauseRefusal::Limits)
-        }
+        *self = ClauseList::new(width, runs, entries)?;
+        Ok(())
     }
-}
 
-// The entries of a clause, read as a set, that are not contradicted.
-fn what_remains(p: &[u8], clause: &[u16]) -> Remaining
-    requires narrow { length p.now ≤ 512 }
-    requires codes { Codes (length p.now) clause.now }
-    ensures { Lacks p.now clause.now result }
-{
-    let mut seen = false;
-    let mut at = 0usize;
-    let mut i = 0usize;
-    while i < clause.len() {
-        if !entry_holds(p, contrary_of(clause[i])) {
-            if !seen {
-                seen = true;
-                at = i;
-            } else if clause[i] != clause[at] {
-                return Remaining::Several;
-            }
-        }
-        i += 1;
-    }
-    if seen {
-        Remaining::One(clause[at])
-    } else {
-        Remaining::Nothing
+    // The entries of clause k.
+    fn clause(&self, k: usize) -> &'a [u16]
+        requires { k < length self.now.runs.now }
+        ensures { result.now ≡ clause_at self.now.runs.now self.now.entries.now k }
+    {
+        let run = self.runs[k];
+        &self.entries[run.first as usize..run.end()]
     }
 }
 
 // A clause with all entries but one contradicted forces that one.
-fn clause_turn(p: &mut [u8], clause: &[u16]) -> Step
+fn clause_turn(p: &mut [u8], clause: &[u16]) -> Turned
     requires narrow { length p.old ≤ 512 }
     requires partial { Partial (length p.old) p.old }
     requires codes { Codes (length p.old) clause.now }
     ensures { Turn (one_clause (length p.old) clause.now) 0 p.old p.new result }
 {
-    match what_remains(p, clause) {
-        Remaining::Nothing => Step::Clash,
-        Remaining::One(e) => decide(p, e),
-        Remaining::Several => Step::Same,
+    match exceptions(clause, |e| entry_holds(p, contrary_of(e))) {
+        Few::Nothing => Err(Clash),
+        Few::Only(e) => decide(p, e),
+        Few::Several => Ok(false),
     }
 }
 
-impl<'a, 'b> Rules for ClauseList<'a, 'b> {
+impl<'a> Rules for ClauseList<'a> {
     ghost forces = { λ s. clause_forces s.width s.runs.now s.entries.now };
 
     ghost plan = { λ s p. ClausePlan s.width s.runs.now s.entries.now p };
@@ -193,9 +155,7 @@ impl<'a, 'b> Rules for ClauseList<'a, 'b> {
         self.runs.len()
     }
 
-    fn turn(&self, p: &mut [u8], k: usize) -> Step {
-        let r = self.runs[k];
-        let from = r.first as usize;
-        clause_turn(p, &self.entries[from..from + r.count as usize])
+    fn turn(&self, p: &mut [u8], k: usize) -> Turned {
+        clause_turn(p, self.clause(k))
     }
 }

@@ -1,14 +1,13 @@
 // What a clause list holds.
-ghost use Rattle.std.specs.Prelude.{◌≡◌, true};
-ghost use Rattle.clauses.specs.Clauses.{clauses_ok};
+ghost use Rattle.clauses.specs.Clauses.{ClausesOk};
 
 use crate::run::Run;
 
 // Clauses over lent runs and entries.
 #[derive(Drop)]
-pub struct ClauseList<'a, 'b> {
+pub struct ClauseList<'a> {
     pub width: usize,
     pub runs: &'a [Run],
-    pub entries: &'b [u16],
-    ghost sound: { clauses_ok width runs.now entries.now ≡ true },
+    pub entries: &'a [u16],
+    ghost sound: { ClausesOk width runs.now entries.now },
 }

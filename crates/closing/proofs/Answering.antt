@@ -1,28 +1,16 @@
 -- The answer of an extension, by its outcome and by the least set.
-use Rattle.std.proofs.Common.{◌≡◌, ℕ, Bool, true, false, List, Ok, sym, refl, ap, ◌∙◌, subst}
-use Rattle.std.proofs.Math.Path.{fun_ext}
-use Rattle.source.specs.Plans.{Partial}
+use Rattle.std.proofs.Common.{◌≡◌, ℕ, Bool, List, Ok, sym, ap, ◌∙◌, subst}
 use Rattle.base.specs.declared.Outcome.{Outcome}
 use Rattle.base.specs.declared.Outcome.TheVariants.{Fits, Clash}
-use Rattle.base.specs.Extending.{Extends}
-use Rattle.closing.specs.Sets.{tabulate, byte_of}
-use Rattle.closing.specs.Forces.{Forces, closure, barred, outcome, Free, Barred, Least, Sound}
+use Rattle.closing.specs.Sets.{tabulate, byte_of, sub_both}
+use Rattle.closing.specs.Forces.{Forces, closure, barred, Free, Barred, Least, Sound}
 use Rattle.closing.specs.Closures.{closure_is_least, free_to, barred_at, fit_is, clash_is}
 use Rattle.closing.specs.Turns.{Extended, ByClosure}
 
-pub extends_from : (R : Forces) (p q : List ℕ) (o : Outcome) → Partial R.width p → Extended R p q o → Extends R.width (outcome R) p (Ok o) q
-extends_from R p q Fits pp e = (pp, e)
-extends_from R p q Clash pp e = (pp, e.0, e.1)
-
 module _ (R : Forces) (s : Sound R) (p : List ℕ) where
-  two : (a b : Bool) → (a ≡ true → b ≡ true) → (b ≡ true → a ≡ true) → a ≡ b
-  two true b f g = sym (f refl)
-  two false true f g = g refl
-  two false false f g = refl
-
   -- there is one least set
   pub least_same : (C : ℕ → Bool) → Least R p C → closure R p ≡ C
-  least_same C c = let d = closure_is_least R s p in fun_ext (λ e. two (closure R p e) (C e) (d.least C c.within c.contains c.keeps e) (c.least (closure R p) d.within d.contains d.keeps e))
+  least_same C c = let d = closure_is_least R s p in sub_both (closure R p) C (d.least C c.within c.contains c.keeps) (c.least (closure R p) d.within d.contains d.keeps)
 
   pub by_closure : (q : List ℕ) (o : Outcome) → Extended R p q o → ByClosure R p (Ok o) q
   by_closure q Fits e = λ C c. let f = fit_is (barred R (closure R p)) (tabulate R.width (byte_of (closure R p))) q e in

@@ -3,12 +3,12 @@ use Rattle.std.specs.Prelude.{◌≡◌, ℕ, zero, suc, ◌+◌, ◌-◌, ◌*�
 use Rattle.std.proofs.Common.{sym, ap, ◌∙◌, subst, arith}
 use Rattle.std.proofs.Math.Path.{fun_ext}
 use Rattle.std.proofs.Math.Logic.{inl, inr}
-use Rattle.std.proofs.lemmas.Bool.{eqb-true, cases_Bool, cases_eq, and_parts, and_from, and_cases, not-true, not_from_false, not-false, not_from_true, both_ways, cases_lt, ne_eqb, eq-eqb, lt-ltb, le-ltb, cond-true, cond-false, true≢false}
+use Rattle.std.proofs.lemmas.Bool.{eqb-true, eqb-false, cases_Bool, cases_eq, and_parts, and_from, not-true, not_from_false, not-false, not_from_true, both_ways, cases_lt, ne_eqb, eq-eqb, lt-ltb, le-ltb, cond-true, cond-false, or_cases, or_right, false_from_ne_true}
 use Rattle.std.proofs.lemmas.List.{get_or_past, ext_get_or}
 use Rattle.source.specs.Plans.{Partial, Whole, Agrees}
-use Rattle.base.proofs.Partials.{long, small, partial_from, whole_long}
+use Rattle.base.proofs.Partials.{long, small, partial_from, whole_long, whole_partial, whole_decided}
 use Rattle.base.specs.Laws.{clash, fits, Lawful}
-use Rattle.closing.specs.Sets.{contrary, holds, below, subset, Within, Sub, Under, tabulate, byte_of, imp_to, imp_from, below_to, below_from, sets_to, sets_from, move, contrary_back, holds_once}
+use Rattle.closing.specs.Sets.{contrary, holds, subset, Within, Sub, Under, tabulate, byte_of, imp_to, imp_from, below_to, below_from, sets_to, sets_from, move, contrary_back, holds_once, sub_both, some_below_to, some_below_from}
 use Rattle.closing.specs.Forces.{Forces, kept, closure, barred, outcome, Kept, Free, Barred, Least, Sound, Based}
 
 abbrev Covers : Forces → List ℕ → (ℕ → Bool) → Type 0
@@ -79,6 +79,17 @@ bytes_partial n C = partial_from n (tabulate n (byte_of C)) (length_tabulate n (
 
 pub holds_within : (n : ℕ) (p : List ℕ) → length p ≡ n → Within (2 * n) (holds p)
 holds_within n p len e l = let z = get_or_past p (e / 2) 0 (omega arith) in ne_eqb _ _ (λ q. omega arith)
+
+-- in a whole partial an entry holds or is contradicted
+pub either : (w : ℕ) (p : List ℕ) → Whole w p → (e : ℕ) → e < 2 * w → (holds p (contrary e) ≡ false) → holds p e ≡ true
+either w p pp e l h =
+    let n = eqb-false _ _ h in
+    let hf : contrary e / 2 ≡ e / 2 = omega arith in
+    let sd : contrary e % 2 + e % 2 ≡ 1 = omega arith in
+    let y = ap (λ k. slice_index p k) hf in
+    let a = small w p (whole_partial w p pp) (e / 2) in
+    let b = whole_decided w p pp (e / 2) (omega arith) in
+    eq-eqb _ _ (elim (cases_eq (slice_index p (e / 2)) (1 + e % 2)) [ inl q ↦ q | inr q ↦ absurd (n (omega arith)) ])
 
 read : (a b : Bool) → (a ≡ true → b ≢ true) → ((cond a 1 (cond b 2 0) == 1) ≡ a) × ((cond a 1 (cond b 2 0) == 2) ≡ b)
 read true true h = absurd (h refl refl)
@@ -153,17 +164,10 @@ free_from : (R : Forces) (D : ℕ → Bool) → Free R D → barred R D ≡ fals
 free_from R D h = not_from_true _ (below_from R.many _ (λ k l. not_from_false _ (h k l)))
 
 pub barred_at : (R : Forces) (D : ℕ → Bool) → barred R D ≡ true → Barred R D
-barred_at R D h = at R.many (not-true _ h)
-  where
-    at : (n : ℕ) → below n (λ k. not (R.bar k D)) ≡ false → (k : ℕ) × (k < n) × (R.bar k D ≡ true)
-    at zero e = absurd (true≢false e)
-    at (suc n) e = elim (and_cases (not (R.bar n D)) (below n (λ k. not (R.bar k D))) e) [
-      | inl x ↦ (n, omega arith, not-false _ x)
-      | inr x ↦ (let r = at n x in (r.0, (let l = r.1 in omega arith), r.2))
-    ]
+barred_at R D h = some_below_to R.many (λ k. R.bar k D) h
 
 pub barred_from : (R : Forces) (D : ℕ → Bool) → Barred R D → barred R D ≡ true
-barred_from R D (k, l, h) = elim (cases_Bool (barred R D)) [ inl q ↦ q | inr q ↦ absurd (both_ways _ (free_to R D q k l) h) ]
+barred_from R D (k, l, h) = some_below_from R.many (λ k. R.bar k D) k l h
 
 module _ (R : Forces) (s : Sound R) (p : List ℕ) (pp : Partial R.width p) where
   C : ℕ → Bool
@@ -187,14 +191,9 @@ module _ (R : Forces) (s : Sound R) (p : List ℕ) (pp : Partial R.width p) wher
       keeps : Kept R D
       keeps k l f m h = let cf = (closure_is_least R s p).keeps k l f m (s.more k D C (λ t x. (and_parts (C t) _ x).0) f h) in
           and_from (C f) _ cf (elim (cases_Bool (C (contrary f))) [
-            | inr q ↦ right (holds p f) (C (contrary f)) q
+            | inr q ↦ or_right (holds p f) _ (not_from_false _ q)
             | inl q ↦ (let br = s.conflict k f C l m (s.more k D C (λ t x. (and_parts (C t) _ x).0) f h) cf q in absurd (both_ways _ (free br.0 br.1) br.2))
           ])
-        where
-          right : (x y : Bool) → y ≡ false → (x || not y) ≡ true
-          right true y e = refl
-          right false true e = sym e
-          right false false e = refl
 
       within : Within (2 * R.width) D
       within f l = ap (λ t. t && (holds p f || not (C (contrary f)))) ((closure_is_least R s p).within f l)
@@ -203,23 +202,18 @@ module _ (R : Forces) (s : Sound R) (p : List ℕ) (pp : Partial R.width p) wher
       covers f l h = and_from (C f) _ ((closure_is_least R s p).contains f l h) (ap (λ t. t || not (C (contrary f))) h)
 
       given : (f : ℕ) → C f ≡ true → C (contrary f) ≡ true → holds p f ≡ true
-      given f x y = last (holds p f) (C (contrary f)) y (and_parts (C f) _ ((closure_is_least R s p).least D within covers keeps f x)).1
-        where
-          last : (u v : Bool) → v ≡ true → (u || not v) ≡ true → u ≡ true
-          last true v e h = refl
-          last false true e h = h
-          last false false e h = e
+      given f x y = elim (or_cases (holds p f) _ (and_parts (C f) _ ((closure_is_least R s p).least D within covers keeps f x)).1) [ inl h ↦ h | inr n ↦ absurd (both_ways _ (not-true _ n) y) ]
 
   same : Free R (closure R p) → holds (tabulate R.width (byte_of (closure R p))) ≡ closure R p
   same free = fun_ext (holds_bytes R.width (closure R p) (closure_is_least R s p).within (consistent free))
 
 pub fit_is : (b : Bool) (x q : List ℕ) → cond b clash (fits x) ≡ fits q → (b ≡ false) × (x ≡ q)
-fit_is true x q h = let z : ◌≡◌ {A = ℕ} 0 1 = cc in absurd (omega arith)
+fit_is true x q h = absurd (cc)
 fit_is false x q h = (refl, cc)
 
 pub clash_is : (b : Bool) (x : List ℕ) → cond b clash (fits x) ≡ clash → b ≡ true
 clash_is true x h = refl
-clash_is false x h = let z : ◌≡◌ {A = ℕ} 0 1 = cc in absurd (omega arith)
+clash_is false x h = absurd (cc)
 
 module _ (R : Forces) (s : Sound R) (plan : List ℕ → Type 0) (b : Based R plan) where
   in_plan : (p x : List ℕ) → plan x → Agrees p x → Sub (closure R p) (holds x)
@@ -233,7 +227,7 @@ module _ (R : Forces) (s : Sound R) (plan : List ℕ → Type 0) (b : Based R pl
     stay = λ q r p e. subst (λ y. Agrees q y) (f q r e).1 (under_agrees R.width (t q) q p (λ k h. at q r p e k (under_closure R s q p k h)));
     keeps = λ q r p e x px ag. subst (λ y. Agrees y x) (f q r e).1 (under_agrees R.width x (t q) (bytes_partial R.width (closure R q))
         (λ k h. in_plan q x px ag k (subst (λ D. D k ≡ true) (same R s q p (free_to R _ (f q r e).0)) h)));
-    clashes = λ q p e x px ag. both_ways _ (free_from R (closure R q) (λ k l. none (R.bar k (closure R q)) (λ h. both_ways _ (b.free x px k l) (s.bars k (closure R q) (holds x) (in_plan q x px ag) h))))
+    clashes = λ q p e x px ag. both_ways _ (free_from R (closure R q) (λ k l. false_from_ne_true (R.bar k (closure R q)) (λ h. both_ways _ (b.free x px k l) (s.bars k (closure R q) (holds x) (in_plan q x px ag) h))))
         (clash_is (barred R (closure R q)) (t q) e);
     wholes = λ q r p e d. let fr = free_to R _ (f q r e).0 in let sm = same R s q p fr in
         subst plan (f q r e).1 (b.wholes (t q) (subst (Whole R.width) (sym (f q r e).1) d)
@@ -249,10 +243,6 @@ module _ (R : Forces) (s : Sound R) (plan : List ℕ → Type 0) (b : Based R pl
       at : (q r : List ℕ) (p : Partial R.width q) (e : outcome R q ≡ fits r) (k : ℕ) → closure R q k ≡ true → holds (t q) k ≡ true
       at q r p e k h = subst (λ D. D k ≡ true) (sym (same R s q p (free_to R _ (f q r e).0))) h
 
-      none : (x : Bool) → (x ≢ true) → x ≡ false
-      none true h = absurd (h refl)
-      none false h = refl
-
 -- from the last turn to the outcome
 module _ (R : Forces) (s : Sound R) (p : List ℕ) (pp : Partial R.width p) where
   pub fits_final : (q : List ℕ) → Partial R.width q → ((C : ℕ → Bool) → Kept R C → Under C p → Under C q) → Under (holds q) p → Kept R (holds q) → Free R (holds q) → outcome R p ≡ fits q
@@ -260,15 +250,10 @@ module _ (R : Forces) (s : Sound R) (p : List ℕ) (pp : Partial R.width p) wher
       ap (λ D. cond (barred R D) clash (fits (tabulate R.width (byte_of D)))) eq
       ∙ cond-false (barred R (holds q)) clash (fits (tabulate R.width (byte_of (holds q)))) (free_from R (holds q) free) ∙ ap fits (bytes_holds R.width q pq)
     where
-      two : (a b : Bool) → (a ≡ true → b ≡ true) → (b ≡ true → a ≡ true) → a ≡ b
-      two true b f g = sym (f refl)
-      two false true f g = g refl
-      two false false f g = refl
-
       eq : closure R p ≡ holds q
-      eq = fun_ext (λ e. two (closure R p e) (holds q e)
-          ((closure_is_least R s p).least (holds q) (holds_within R.width q (long R.width q pq)) (λ t l h. grows t h) k e)
-          (forced (closure R p) (closure_is_least R s p).keeps (under_closure R s p pp) e))
+      eq = sub_both (closure R p) (holds q)
+          ((closure_is_least R s p).least (holds q) (holds_within R.width q (long R.width q pq)) (λ t l h. grows t h) k)
+          (forced (closure R p) (closure_is_least R s p).keeps (under_closure R s p pp))
 
   pub clash_final : ((C : ℕ → Bool) → Kept R C → Under C p → Barred R C) → outcome R p ≡ clash
   clash_final h = cond-true (barred R (closure R p)) clash (fits (tabulate R.width (byte_of (closure R p))))

@@ -3,7 +3,9 @@ use Rattle.std.specs.Prelude.{◌≡◌, ℕ, zero, suc, ◌+◌, ◌-◌, ◌*�
 use Rattle.std.proofs.Common.{sym, ap, ◌∙◌, subst, inl, inr, arith}
 use Rattle.std.proofs.Math.Path.{fun_ext}
 use Rattle.std.proofs.lemmas.List.{length-take, length-drop, get_or-take, get_or-drop}
-use Rattle.std.proofs.lemmas.Bool.{eqb-true, cases_Bool, cases_eq, and_parts, and_from, both_ways, ne_eqb, eq-eqb, or_from}
+use Rattle.std.specs.Bool.{one_answer}
+use Rattle.base.specs.Settled.{Among}
+use Rattle.std.proofs.lemmas.Bool.{eqb-true, cases_Bool, cases_eq, and_parts, and_from, and_cases, both_ways, not-true, not_from_false, not-false, ne_eqb, eq-eqb, or_from}
 
 -- An entry is a code: twice the statement's number, plus 1 if it says "not". The contrary has the same statement.
 abbrev pub contrary : ℕ → ℕ
@@ -47,9 +49,9 @@ Sub C D = (e : ℕ) → C e ≡ true → D e ≡ true
 abbrev pub Under : (ℕ → Bool) → List ℕ → Type 0
 Under C p = Sub (holds p) C
 
+-- e is in the list
 abbrev pub In : ℕ → List ℕ → Type 0
-In e [] = ⊥
-In e (x ∷ xs) = (x ≡ e) ⊎ In e xs
+In e xs = Among e xs
 
 -- each code names a statement below n
 abbrev pub Codes : ℕ → List ℕ → Type 0
@@ -62,6 +64,10 @@ tabulate (suc n) f = f zero ∷ tabulate n (λ s. f (suc s))
 
 unfoldable pub byte_of : (ℕ → Bool) → ℕ → ℕ
 byte_of C s = cond (C (2 * s)) 1 (cond (C (2 * s + 1)) 2 0)
+
+-- two sets that have all of each other are the same
+pub sub_both : (C D : ℕ → Bool) → Sub C D → Sub D C → C ≡ D
+sub_both C D f g = fun_ext (λ e. one_answer (C e) (D e) (f e, g e) ((λ h. h), (λ h. h)))
 
 pub imp_to : (a b : Bool) → imp a b ≡ true → a ≡ true → b ≡ true
 imp_to true b h p = h
@@ -90,6 +96,19 @@ every_or f (x ∷ xs) = first (cases_Bool (f x)) (every_or f xs)
     first (inl h) (inr r) = inr (r.0, inr r.1, r.2)
     first (inl h) (inl r) = inl (λ e i. elim i [ inl p ↦ subst (λ z. f z ≡ true) p h | inr j ↦ r e j ])
 
+-- some element passes the test
+pub some_to : (f : ℕ → Bool) (xs : List ℕ) → not (every (λ e. not (f e)) xs) ≡ true → (e : ℕ) × In e xs × (f e ≡ true)
+some_to f xs h = elim (every_or (λ e. not (f e)) xs) [
+  | inl all ↦ absurd (both_ways _ (not-true _ h) (every_from _ xs all))
+  | inr c ↦ (c.0, c.1, not-false _ c.2)
+]
+
+pub some_from : (f : ℕ → Bool) (xs : List ℕ) (e : ℕ) → In e xs → f e ≡ true → not (every (λ x. not (f x)) xs) ≡ true
+some_from f xs e m p = elim (cases_Bool (every (λ x. not (f x)) xs)) [
+  | inl all ↦ absurd (both_ways _ (not-true _ (every_to (λ x. not (f x)) xs all e m)) p)
+  | inr q ↦ not_from_false _ q
+]
+
 pub below_to : (n : ℕ) (f : ℕ → Bool) → below n f ≡ true → (i : ℕ) → i < n → f i ≡ true
 below_to zero f h i l = absurd (omega arith)
 below_to (suc n) f h i l = elim (cases_eq i n) [
@@ -100,6 +119,23 @@ below_to (suc n) f h i l = elim (cases_eq i n) [
 pub below_from : (n : ℕ) (f : ℕ → Bool) → ((i : ℕ) → i < n → f i ≡ true) → below n f ≡ true
 below_from zero f h = refl
 below_from (suc n) f h = and_from (f n) (below n f) (h n (omega arith)) (below_from n f (λ i l. h i (omega arith)))
+
+-- some number below n passes the test
+pub some_below_to : (n : ℕ) (f : ℕ → Bool) → not (below n (λ k. not (f k))) ≡ true → (k : ℕ) × (k < n) × (f k ≡ true)
+some_below_to zero f h = absurd (both_ways _ refl h)
+some_below_to (suc n) f h = elim (cases_Bool (f n)) [
+  | inl q ↦ (n, omega arith, q)
+  | inr q ↦ (let r = some_below_to n f (not_from_false _ (below_rest q)) in (r.0, (let l = r.1 in omega arith), r.2))
+]
+  where
+    below_rest : f n ≡ false → below n (λ k. not (f k)) ≡ false
+    below_rest q = elim (and_cases (not (f n)) _ (not-true _ h)) [ inl x ↦ absurd (both_ways _ q (not-false _ x)) | inr x ↦ x ]
+
+pub some_below_from : (n : ℕ) (f : ℕ → Bool) (k : ℕ) → k < n → f k ≡ true → not (below n (λ k. not (f k))) ≡ true
+some_below_from n f k l h = elim (cases_Bool (below n (λ j. not (f j)))) [
+  | inl q ↦ absurd (both_ways _ (not-true _ (below_to n (λ j. not (f j)) q k l)) h)
+  | inr q ↦ not_from_false _ q
+]
 
 pub sets_to : (n : ℕ) (f : (ℕ → Bool) → Bool) → all_sets n f ≡ true → (X : ℕ → Bool) → Within n X → f X ≡ true
 sets_to zero f h X w = subst (λ Z. f Z ≡ true) (fun_ext (λ s. sym (w s (omega arith)))) h

@@ -1,13 +1,13 @@
 -- The parts of the five rules as tests, and what they say.
-use Rattle.std.proofs.Common.{◌≡◌, ℕ, ◌+◌, ◌*◌, Bool, true, false, not, ◌||◌, eqb, ◌⊎◌, List, sym, refl, ap, subst, inl, inr, arith}
+use Rattle.std.proofs.Common.{◌≡◌, ℕ, ◌+◌, ◌*◌, Bool, true, false, not, ◌||◌, eqb, ◌⊎◌, sym, refl, ap, subst, inl, inr}
 use Rattle.std.proofs.Math.Option.{Option, some, none}
 use Rattle.std.proofs.lemmas.Bool.{eqb-true, cases_Bool, both_ways, not-true, not_from_false, not-false, eq-eqb, or_cases, or_left, or_right, or_parts}
-use Rattle.closing.specs.Sets.{contrary, In, every, imp_to, imp_from, every_to, every_from, every_or, below_to, below_from}
+use Rattle.closing.specs.Sets.{contrary, In, every, imp_to, imp_from, every_to, every_from, every_or, some_to, some_from, below_to, below_from}
 use Rattle.stable.specs.Books.{stmt, negated, Rule, Book, rows, row, Cancelled, HeadFails, Unfounded}
 use Rattle.stable.specs.Decide.{on_head, cancelled, unfounded, heads}
 
 pub head_to : (o : Option ℕ) (f : ℕ → Bool) → on_head o true f ≡ true → (h : ℕ) → o ≡ some h → f h ≡ true
-head_to none f e h p = let z : ◌≡◌ {A = ℕ} 0 1 = cc in absurd (omega arith)
+head_to none f e h p = absurd (cc)
 head_to (some g) f e h p = let q : g ≡ h = cc in subst (λ z. f z ≡ true) q e
 
 pub head_from : (o : Option ℕ) (f : ℕ → Bool) → ((h : ℕ) → o ≡ some h → f h ≡ true) → on_head o true f ≡ true
@@ -31,18 +31,6 @@ fails_to D (some h) e = e
 pub fails_from : (D : ℕ → Bool) (o : Option ℕ) → HeadFails D o → on_head o true (λ h. D (2 * h + 1)) ≡ true
 fails_from D none e = refl
 fails_from D (some h) e = e
-
-pub some_to : (f : ℕ → Bool) (xs : List ℕ) → not (every (λ e. not (f e)) xs) ≡ true → (e : ℕ) × In e xs × (f e ≡ true)
-some_to f xs h = elim (every_or (λ e. not (f e)) xs) [
-  | inl all ↦ absurd (both_ways _ (not-true _ h) (every_from _ xs all))
-  | inr c ↦ (c.0, c.1, not-false _ c.2)
-]
-
-pub some_from : (f : ℕ → Bool) (xs : List ℕ) (e : ℕ) → In e xs → f e ≡ true → not (every (λ x. not (f x)) xs) ≡ true
-some_from f xs e m p = elim (cases_Bool (every (λ x. not (f x)) xs)) [
-  | inl all ↦ absurd (both_ways _ (not-true _ (every_to (λ x. not (f x)) xs all e m)) p)
-  | inr q ↦ not_from_false _ q
-]
 
 pub cancelled_to : (D : ℕ → Bool) (r : Rule) → cancelled D r ≡ true → Cancelled D r
 cancelled_to D r h = some_to (λ e. D (contrary e)) r.body h

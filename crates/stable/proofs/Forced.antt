@@ -1,36 +1,20 @@
 -- A rulebook as rules that force decisions: one for each row (forward, contraposition), one for each statement (all cancelled, backchain), and one for all unfounded sets (unfounded).
-use Rattle.std.proofs.Common.{◌≡◌, ℕ, zero, suc, ◌+◌, ◌-◌, ◌*◌, ◌/◌, ◌%◌, ◌<◌, ◌≤◌, Bool, true, false, not, ◌&&◌, eqb, ltb, ◌≢◌, ◌⊎◌, List, [], length, get_or, sym, refl, ap, ◌∙◌, subst, inl, inr, arith}
+use Rattle.std.proofs.Common.{◌≡◌, ℕ, ◌+◌, ◌-◌, ◌*◌, ◌/◌, ◌%◌, ◌<◌, ◌≤◌, Bool, true, false, not, ◌&&◌, eqb, ltb, ◌≢◌, ◌⊎◌, List, [], length, sym, refl, ap, ◌∙◌, subst, inl, inr, arith}
 use Rattle.std.proofs.Math.Option.{Option, some, none}
-use Rattle.std.proofs.lemmas.Bool.{eqb-true, eqb-false, cases_Bool, cases_eq, cases_lt, both_ways, and_parts, and_from, not-true, not_from_false, eq-eqb, ne_eqb, or_cases, or_left, or_right, lt-ltb, le-ltb, cond-true, cond-false}
-use Rattle.std.proofs.lemmas.List.{nil_from_length, get_or_past}
+use Rattle.std.proofs.lemmas.Bool.{false_from_ne_true, eqb-true, eqb-false, cases_Bool, cases_eq, cases_lt, both_ways, and_parts, and_from, not-true, not_from_false, eq-eqb, ne_eqb, or_cases, or_left, or_right, lt-ltb, le-ltb, cond-true, cond-false}
+use Rattle.std.proofs.lemmas.List.{nil_from_length}
 use Rattle.source.specs.Plans.{Whole}
-use Rattle.base.proofs.Partials.{small, whole_long, whole_partial, whole_decided}
-use Rattle.closing.specs.Sets.{contrary, holds, In, Within, Sub, imp, every, below, all_sets, imp_to, imp_from, every_to, every_from, below_to, below_from, sets_to, sets_from, move, holds_once}
+use Rattle.base.proofs.Partials.{whole_long}
+use Rattle.closing.specs.Sets.{contrary, holds, In, Within, Sub, imp, every, all_sets, imp_to, imp_from, every_to, every_from, some_to, some_from, some_below_to, some_below_from, below_to, below_from, sets_to, sets_from, move, holds_once}
 use Rattle.closing.specs.Forces.{Forces, KeptAt, Free, Barred, Based}
 use Rattle.closing.specs.Forces as forcing
+use Rattle.closing.specs.Closures.{holds_within, either}
 use Rattle.stable.specs.Books.{stmt, negated, Rule, Book, rows, row, Sound, Cancelled, HeadFails, Unfounded, Kept, Total, BookPlan}
 use Rattle.stable.specs.Decide.{on_head, cancelled, unfounded, heads, some_below, some_in, row_forces, all_cancelled, others_cancelled, only_row, statement_forces, unfounded_forces, empties, kind, book_forces}
-use Rattle.stable.proofs.Bridge.{heads_to, heads_from, fails_to, fails_from, some_to, some_from, cancelled_to, cancelled_from, unf_to, unf_from}
+use Rattle.stable.proofs.Bridge.{heads_to, heads_from, fails_to, fails_from, cancelled_to, cancelled_from, unf_to, unf_from}
 use Rattle.stable.proofs.Theory.{plans_are_kept, kept_are_plans}
 
 -- THE TESTS, OPENED
-some_below_to : (n : ℕ) (f : ℕ → Bool) → some_below n f ≡ true → (k : ℕ) × (k < n) × (f k ≡ true)
-some_below_to zero f h = absurd (both_ways _ refl h)
-some_below_to (suc n) f h = elim (cases_Bool (f n)) [
-  | inl q ↦ (n, omega arith, q)
-  | inr q ↦ (let r = some_below_to n f (rest (f n) (below n (λ k. not (f k))) q h) in (r.0, (let l = r.1 in omega arith), r.2))
-]
-  where
-    rest : (a b : Bool) → a ≡ false → not (not a && b) ≡ true → not b ≡ true
-    rest true b e x = absurd (both_ways _ e refl)
-    rest false b e x = x
-
-some_below_from : (n : ℕ) (f : ℕ → Bool) (k : ℕ) → k < n → f k ≡ true → some_below n f ≡ true
-some_below_from n f k l h = elim (cases_Bool (below n (λ j. not (f j)))) [
-  | inl q ↦ absurd (both_ways _ (not-true _ (below_to n (λ j. not (f j)) q k l)) h)
-  | inr q ↦ not_from_false _ q
-]
-
 abbrev Row : Rule → (ℕ → Bool) → ℕ → Type 0
 Row r D e =
     ((h : ℕ) × (r.head ≡ some h) × (e ≡ 2 * h) × ((f : ℕ) → In f r.body → D f ≡ true)) ⊎
@@ -236,14 +220,8 @@ five_kept rb D d k lk e le x = elim (which (rows rb) rb.width k) [
 -- PLANS
 pub whole_bytes : (n : ℕ) (P : List ℕ) → Whole n P → Total n (holds P)
 whole_bytes n P pp = record {
-  within = λ e l. let z = get_or_past P (e / 2) 0 (let w = whole_long n P pp in omega arith) in ne_eqb _ _ (λ q. omega arith);
-  total = λ e l. elim (cases_Bool (holds P (contrary e))) [
-    | inl q ↦ inr q
-    | inr q ↦ inl (let m = eqb-false _ _ q in
-        let hf : contrary e / 2 ≡ e / 2 = omega arith in let sd : contrary e % 2 + e % 2 ≡ 1 = omega arith in
-        let y = ap (λ k. get_or P k 0) hf in let a = small n P (whole_partial n P pp) (e / 2) in let b = whole_decided n P pp (e / 2) (omega arith) in
-        eq-eqb _ _ (elim (cases_eq (get_or P (e / 2) 0) (1 + e % 2)) [ inl z ↦ z | inr z ↦ absurd (m (omega arith)) ]))
-  ];
+  within = holds_within n P (whole_long n P pp);
+  total = λ e l. elim (cases_Bool (holds P (contrary e))) [ inl q ↦ inr q | inr q ↦ inl (either n P pp e l q) ];
   consistent = λ e a b. holds_once P e a b;
 }
 
@@ -261,7 +239,7 @@ pub book_based : (rb : Book) → Sound rb → Based (book_forces rb) (λ p. Book
 book_based rb sound = record {
   shaped = λ x p. p.whole;
   kept_by = λ x p. five_kept rb (holds x) (plans_are_kept rb sound (holds x) (whole_bytes rb.width x p.whole) p.plan);
-  free = λ x p k l. none_of ((book_forces rb).bar k (holds x)) (λ b. elim (which (rows rb) rb.width k) [
+  free = λ x p k l. false_from_ne_true ((book_forces rb).bar k (holds x)) (λ b. elim (which (rows rb) rb.width k) [
     | inl lk ↦ (let t = empties_to (row rb k) (sym (bar_row rb (holds x) k lk) ∙ b) in
         p.plan.allowed k lk t.0 (λ e m. absurd (subst (In e) t.1 m)) (λ e m. absurd (subst (In e) t.1 m)))
     | inr y ↦ elim y [
@@ -276,7 +254,3 @@ book_based rb sound = record {
         (λ b. both_ways _ (free b.0 (let l = b.1 in omega arith)) (bar_row rb (holds x) b.0 b.1 ∙ empties_from (row rb b.0) b.2 b.3));
   };
 }
-  where
-    none_of : (b : Bool) → (b ≡ true → ⊥) → b ≡ false
-    none_of true f = absurd (f refl)
-    none_of false f = refl

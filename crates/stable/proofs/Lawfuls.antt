@@ -1,10 +1,9 @@
 -- The theorems on closures, and the base that a rulebook makes.
 use Rattle.std.proofs.Common.{◌≡◌, ℕ, ◌+◌, ◌*◌, ◌<◌, Bool, true, false, cond, ◌⊎◌, List, sym, refl, ap, ◌∙◌, subst, inl, inr, arith}
-use Rattle.std.proofs.Math.Path.{fun_ext}
 use Rattle.std.proofs.lemmas.Bool.{cases_lt, both_ways, and_parts, and_from}
 use Rattle.base.specs.Laws.{clash, fits}
 use Rattle.base.proofs.Partials.{whole_long}
-use Rattle.closing.specs.Sets.{contrary, holds, In, Within, tabulate, byte_of, move, holds_once}
+use Rattle.closing.specs.Sets.{contrary, holds, In, Within, tabulate, byte_of, move, holds_once, sub_both}
 use Rattle.closing.specs.Forces.{closure, barred, Barred}
 use Rattle.closing.specs.Closures.{closing_lawful, closure_is_least, holds_within, agrees_under, barred_at, barred_from, kept_to, kept_from}
 use Rattle.stable.specs.Books.{Book, rows, row, Sound, BookPlan, ClosureOf, Contradictory, Bodiless, OutcomeOf}
@@ -53,14 +52,9 @@ barred_by rb C w (inl (t, a, b)) = (rows rb + t, omega (arith, lt), bar_statemen
 barred_by rb C w (inr (i, l, hd, nil)) = (i, omega arith, bar_row rb C i l ∙ empties_from (row rb i) hd nil)
 
 module _ (rb : Book) (s : Sound rb) (p : List ℕ) where
-  two : (a b : Bool) → (a ≡ true → b ≡ true) → (b ≡ true → a ≡ true) → a ≡ b
-  two true b f g = sym (f refl)
-  two false true f g = g refl
-  two false false f g = refl
-
   -- there is one closure
   pub closures_same : (C : ℕ → Bool) → ClosureOf rb p C → closure (book_forces rb) p ≡ C
-  closures_same C c = let d = closure_least rb s p in fun_ext (λ e. two _ _ (d.least C c.within c.contains c.keeps e) (c.least _ d.within d.contains d.keeps e))
+  closures_same C c = let d = closure_least rb s p in sub_both _ C (d.least C c.within c.contains c.keeps) (c.least _ d.within d.contains d.keeps)
 
   pub outcome_of : (b : Bool) → barred (book_forces rb) (closure (book_forces rb) p) ≡ b →
       OutcomeOf rb p (cond b clash (fits (tabulate rb.width (byte_of (closure (book_forces rb) p)))))

@@ -1,5 +1,5 @@
 -- The test for plans says what the definition says.
-use Rattle.std.proofs.Common.{◌≡◌, ℕ, ◌<◌, Bool, true, false, not, ◌&&◌, refl, inl, inr, arith}
+use Rattle.std.proofs.Common.{◌≡◌, ℕ, ◌<◌, Bool, true, false, not, ◌&&◌, refl, inl, inr}
 use Rattle.std.proofs.Math.Option.{Option, some, none}
 use Rattle.std.proofs.lemmas.Bool.{and_parts, and_from, not-true, not_from_false, both_ways, cases_lt}
 use Rattle.closing.specs.Sets.{Within, subset, imp_to, imp_from, every_to, every_from, below_to, below_from, sets_to, sets_from}
@@ -9,7 +9,7 @@ use Rattle.stable.proofs.Bridge.{head_to, head_from}
 
 pub bare_to : (o : Option ℕ) (b : Bool) → on_head o b (λ h. true) ≡ true → o ≡ none → b ≡ true
 bare_to none b e p = e
-bare_to (some g) b e p = let z : ◌≡◌ {A = ℕ} 0 1 = cc in absurd (omega arith)
+bare_to (some g) b e p = absurd (cc)
 
 pub bare_from : (o : Option ℕ) (b : Bool) → (o ≡ none → b ≡ true) → on_head o b (λ h. true) ≡ true
 bare_from none b e = e refl

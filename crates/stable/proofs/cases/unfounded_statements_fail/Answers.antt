@@ -1,7 +1,0 @@
-use Rattle.std.proofs.Common.{refl}
-use Rattle.closing.specs.Sets.{byte_of}
-use Rattle.stable.proofs.cases.unfounded_statements_fail.Goals as goal
-
-pub returns : goal.returns
-unfolding byte_of
-returns c = refl
