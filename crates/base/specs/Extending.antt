@@ -1,5 +1,5 @@
 -- What extending a partial answers and writes.
-use Rattle.std.specs.Prelude.{◌≡◌, ℕ, List, length, Some, None, Ok, Err, Option, Result}
+use Rattle.std.specs.Prelude.{◌≡◌, ℕ, List, length, Ok, Err, Result}
 use Rattle.source.specs.Plans.{UpTo, Partial}
 use Rattle.source.specs.declared.Refusal.{Refusal}
 use Rattle.source.specs.declared.Refusal.TheVariants.{Length, Value, Mark, Wide}
@@ -20,7 +20,7 @@ Extends w o before (Ok Fits) after = Partial w before × (o before ≡ fits afte
 Extends w o before (Ok Clash) after = Partial w before × (o before ≡ clash) × (after ≡ before)
 Extends w o before (Err e) after = Refused w before e × (after ≡ before)
 
--- the refusal, or a partial
-abbrev pub Checked : ℕ → List ℕ → Option Refusal → Type 0
-Checked w q (Some e) = Refused w q e
-Checked w q None = Partial w q
+-- a partial, or the refusal
+abbrev pub Checked : ℕ → List ℕ → Result Unit Refusal → Type 0
+Checked w q (Ok _) = Partial w q
+Checked w q (Err e) = Refused w q e

@@ -6,13 +6,11 @@ ghost use Rattle.base.specs.Laws.{Out, Lawful};
 ghost use Rattle.base.specs.Extending.{Extends, Checked};
 
 use source::Refusal;
-use source::bytes::up_to;
-
-// The largest byte of a partial.
-const VALUE_MAX: u8 = 2;
+use source::bytes::{FAILS, up_to};
 
 // What comes of a partial that is not refused.
-#[derive(Clone, Copy)]
+// Stays: two answers with names, neither of them an error, and neither with a value.
+#[derive(Clone, Copy, Debug, PartialEq, Eq)]
 pub enum Outcome {
     Fits,
     Clash,
@@ -39,23 +37,20 @@ pub trait Base {
         ensures { Extends (wide self.now) (outcome self.now) partial.old result partial.new };
 }
 
-// The refusal of an extension, if there is one.
-pub fn refusal_of(width: usize, partial: &[u8]) -> Option<Refusal>
+// Whether bytes are a partial of the width, or why they are refused.
+pub fn check(width: usize, partial: &[u8]) -> Result<(), Refusal>
     ensures { Checked width partial.now result }
 {
     if partial.len() != width {
-        return Some(Refusal::Length);
+        return Err(Refusal::Length);
     }
-    if up_to(partial, VALUE_MAX) {
-        None
-    } else {
-        Some(Refusal::Value)
+    if !up_to(partial, FAILS) {
+        return Err(Refusal::Value);
     }
+    Ok(())
 }
 
 // The laws of a base, for any base.
-pub fn laws_stand<B: Base>(base: &B) -> u8
+pub fn laws_stand<B: Base>(base: &B)
     ensures { Lawful (B.wide base.now) (B.plan base.now) (B.outcome base.now) }
-{
-    0
-}
+{}

@@ -7,9 +7,9 @@ ghost use Rattle.closing.specs.Turns.{Turn};
 ghost use Rattle.closing.specs.Sets.{holds, contrary, Codes};
 ghost use Rattle.clauses.specs.Clauses.{clauses_ok, runs_fit, codes_fit, one_clause, clause_forces, ClausePlan};
 ghost use Rattle.clauses.specs.Sounds.{clause_sound, clause_based};
-ghost use Rattle.clauses.specs.Listing.{Lacks, Answered, number_of};
+ghost use Rattle.clauses.specs.Listing.{Answered, number_of};
 
-use closing::{Rules, Step, contrary_of, decide, entry_holds};
+use closing::{Clash, Few, Rules, Turned, contrary_of, decide, entry_holds, exceptions};
 use list::ClauseList;
 use run::Run;
 
@@ -27,14 +27,6 @@ const ENTRIES_MAX: usize = 8192;
 #[derive(Clone, Copy)]
 pub enum ClauseRefusal {
     Limits,
-}
-
-// The entries of a clause that are not contradicted.
-#[derive(Clone, Copy)]
-enum Remaining {
-    Nothing,
-    One(u16),
-    Several,
 }
 
 impl ClauseRefusal {
@@ -131,44 +123,17 @@ impl<'a, 'b> ClauseList<'a, 'b> {
     }
 }
 
-// The entries of a clause, read as a set, that are not contradicted.
-fn what_remains(p: &[u8], clause: &[u16]) -> Remaining
-    requires narrow { length p.now ≤ 512 }
-    requires codes { Codes (length p.now) clause.now }
-    ensures { Lacks p.now clause.now result }
-{
-    let mut seen = false;
-    let mut at = 0usize;
-    let mut i = 0usize;
-    while i < clause.len() {
-        if !entry_holds(p, contrary_of(clause[i])) {
-            if !seen {
-                seen = true;
-                at = i;
-            } else if clause[i] != clause[at] {
-                return Remaining::Several;
-            }
-        }
-        i += 1;
-    }
-    if seen {
-        Remaining::One(clause[at])
-    } else {
-        Remaining::Nothing
-    }
-}
-
 // A clause with all entries but one contradicted forces that one.
-fn clause_turn(p: &mut [u8], clause: &[u16]) -> Step
+fn clause_turn(p: &mut [u8], clause: &[u16]) -> Turned
     requires narrow { length p.old ≤ 512 }
     requires partial { Partial (length p.old) p.old }
     requires codes { Codes (length p.old) clause.now }
     ensures { Turn (one_clause (length p.old) clause.now) 0 p.old p.new result }
 {
-    match what_remains(p, clause) {
-        Remaining::Nothing => Step::Clash,
-        Remaining::One(e) => decide(p, e),
-        Remaining::Several => Step::Same,
+    match exceptions(clause, |e| entry_holds(p, contrary_of(e))) {
+        Few::Nothing => Err(Clash),
+        Few::Only(e) => decide(p, e),
+        Few::Several => Ok(false),
     }
 }
 
@@ -193,7 +158,7 @@ impl<'a, 'b> Rules for ClauseList<'a, 'b> {
         self.runs.len()
     }
 
-    fn turn(&self, p: &mut [u8], k: usize) -> Step {
+    fn turn(&self, p: &mut [u8], k: usize) -> Turned {
         let r = self.runs[k];
         let from = r.first as usize;
         clause_turn(p, &self.entries[from..from + r.count as usize])

@@ -1,11 +1,10 @@
 -- An entry that a rule forces, made to hold.
-use Rattle.std.proofs.Common.{◌≡◌, ℕ, zero, suc, ◌+◌, ◌*◌, ◌/◌, ◌%◌, ◌<◌, Bool, true, cond, eqb, ◌≢◌, List, [], ◌∷◌, length, get_or, set, sym, ap, ◌∙◌, subst, inl, inr, arith}
+use Rattle.std.proofs.Common.{◌≡◌, Ok, ℕ, zero, suc, ◌+◌, ◌*◌, ◌/◌, ◌%◌, ◌<◌, Bool, true, cond, eqb, ◌≢◌, List, [], ◌∷◌, length, get_or, set, sym, ap, ◌∙◌, subst, inl, inr, arith}
 use Rattle.std.proofs.lemmas.Bool.{eqb-true, cases_eq, ne_eqb, eq-eqb, cond-true, cond-false}
 use Rattle.std.proofs.lemmas.List.{get_or-set_same, get_or-set_other, length-set}
 use Rattle.source.specs.Plans.{UpTo}
 use Rattle.closing.specs.Sets.{holds, Under}
 use Rattle.closing.specs.Turns.{undecided, Further, Made}
-use Rattle.closing.specs.declared.Step.TheVariants.{Changed}
 
 pub undecided_set : (p : List ℕ) (s v : ℕ) → s < length p → get_or p s 0 ≡ 0 → v ≢ 0 → undecided (set p s v) < undecided p
 undecided_set [] s v l z nz = absurd (omega arith)
@@ -14,7 +13,7 @@ undecided_set (x ∷ xs) zero v l z nz =
     let b : ◌≡◌ {A = ℕ} (cond (eqb v 0) 1 0) 0 = cond-false (eqb v 0) 1 0 (ne_eqb v 0 nz) in omega (arith, a, b)
 undecided_set (x ∷ xs) (suc s) v l z nz = let r = undecided_set xs s v (omega arith) z nz in omega arith
 
-pub made_further : (L : (ℕ → Bool) → Type 0) (p q : List ℕ) (e : ℕ) → e < 2 * length p → UpTo 2 p → Made p e q Changed →
+pub made_further : (L : (ℕ → Bool) → Type 0) (p q : List ℕ) (e : ℕ) → e < 2 * length p → UpTo 2 p → Made p e q (Ok true) →
     ((C : ℕ → Bool) → L C → Under C p → C e ≡ true) → Further L p q
 made_further L p q e l pp d force = record {
   long = ap length d.1 ∙ length-set p (e / 2) (1 + e % 2);

@@ -3,3 +3,4 @@ pub mod Sets
 pub mod Forces
 pub mod Closures
 pub mod Turns
+pub mod Fews

@@ -1,14 +1,13 @@
 -- What one rule's turn promises, and a pass of all rules.
 use Rattle.std.specs.Prelude.{◌≡◌, ℕ, ◌+◌, ◌/◌, ◌%◌, ◌<◌, Bool, true, false, cond, List, [], ◌∷◌, length, Ok, Err, Result, ◌==◌, slice_index, slice_set}
-use Rattle.source.specs.Plans.{UpTo}
+use Rattle.source.specs.Plans.{UpTo, Partial}
 use Rattle.source.specs.declared.Refusal.{Refusal}
 use Rattle.base.specs.Laws.{clash, fits}
 use Rattle.base.specs.declared.Outcome.{Outcome}
 use Rattle.base.specs.declared.Outcome.TheVariants.{Fits, Clash as Clashes}
 use Rattle.closing.specs.Sets.{holds, contrary, Under, tabulate, byte_of}
 use Rattle.closing.specs.Forces.{Forces, KeptAt, Kept, Free, Barred, Least, outcome}
-use Rattle.closing.specs.declared.Step.{Step}
-use Rattle.closing.specs.declared.Step.TheVariants.{Same, Changed, Clash}
+use Rattle.closing.specs.declared.Clash.{Clash}
 
 abbrev pub undecided : List ℕ → ℕ
 undecided [] = 0
@@ -23,32 +22,38 @@ pub record Further (L : (ℕ → Bool) → Type 0) (p q : List ℕ) : Type 0 whe
   pub grows : Under (holds q) p
 
 -- the turn of rule k: nothing to do, or further, or every kept set that has all of p is barred
-abbrev pub Turn : Forces → ℕ → List ℕ → List ℕ → Step → Type 0
-Turn R k p q Same = (q ≡ p) × KeptAt R k (holds p) × (R.bar k (holds p) ≡ false)
-Turn R k p q Changed = Further (KeptAt R k) p q
-Turn R k p q Clash = (C : ℕ → Bool) → KeptAt R k C → Under C p → Barred R C
+abbrev pub Turn : Forces → ℕ → List ℕ → List ℕ → Result Bool Clash → Type 0
+Turn R k p q (Ok false) = (q ≡ p) × KeptAt R k (holds p) × (R.bar k (holds p) ≡ false)
+Turn R k p q (Ok true) = Further (KeptAt R k) p q
+Turn R k p q (Err c) = (C : ℕ → Bool) → KeptAt R k C → Under C p → Barred R C
 
 -- a pass of all rules
-abbrev pub Pass : Forces → List ℕ → List ℕ → Step → Type 0
-Pass R p q Same = (q ≡ p) × Kept R (holds p) × Free R (holds p)
-Pass R p q Changed = Further (Kept R) p q
-Pass R p q Clash = (C : ℕ → Bool) → Kept R C → Under C p → Barred R C
+abbrev pub Pass : Forces → List ℕ → List ℕ → Result Bool Clash → Type 0
+Pass R p q (Ok false) = (q ≡ p) × Kept R (holds p) × Free R (holds p)
+Pass R p q (Ok true) = Further (Kept R) p q
+Pass R p q (Err c) = (C : ℕ → Bool) → Kept R C → Under C p → Barred R C
 
 -- after the rules below i: nothing has changed and they have nothing to do, or further
 abbrev pub Through : Forces → List ℕ → ℕ → List ℕ → Bool → Type 0
 Through R p i q true = Further (Kept R) p q
 Through R p i q false = (q ≡ p) × ((k : ℕ) → k < i → KeptAt R k (holds p) × (R.bar k (holds p) ≡ false))
 
--- after whole passes: the outcome, or a clash
-abbrev pub Closes : Forces → List ℕ → List ℕ → Bool → Type 0
-Closes R p q true = outcome R p ≡ fits q
-Closes R p q false = outcome R p ≡ clash
+-- after whole passes that changed something: a partial that has all of p, and only what every kept set has that has all of p
+pub record Passed (R : Forces) (p q : List ℕ) : Type 0 where
+  pub partial : Partial R.width q
+  pub forced : (C : ℕ → Bool) → Kept R C → Under C p → Under C q
+  pub grows : Under (holds q) p
+
+-- after the last pass: the outcome, or a clash
+abbrev pub Closes : Forces → List ℕ → List ℕ → Result Unit Clash → Type 0
+Closes R p q (Ok _) = outcome R p ≡ fits q
+Closes R p q (Err c) = outcome R p ≡ clash
 
 -- an entry made to hold
-abbrev pub Made : List ℕ → ℕ → List ℕ → Step → Type 0
-Made p e q Same = (q ≡ p) × (holds p e ≡ true)
-Made p e q Changed = (slice_index p (e / 2) ≡ 0) × (q ≡ slice_set p (e / 2) (1 + e % 2))
-Made p e q Clash = (q ≡ p) × (holds p (contrary e) ≡ true)
+abbrev pub Made : List ℕ → ℕ → List ℕ → Result Bool Clash → Type 0
+Made p e q (Ok false) = (q ≡ p) × (holds p e ≡ true)
+Made p e q (Ok true) = (slice_index p (e / 2) ≡ 0) × (q ≡ slice_set p (e / 2) (1 + e % 2))
+Made p e q (Err c) = (q ≡ p) × (holds p (contrary e) ≡ true)
 
 -- the extension in lent memory
 abbrev pub Extended : Forces → List ℕ → List ℕ → Outcome → Type 0

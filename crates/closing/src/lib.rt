@@ -1,23 +1,32 @@
 // The closure of rules that force decisions, and the base that it makes.
 #![tactic(auto)]
 
-ghost use Rattle.std.specs.Prelude.{◌≡◌, ℕ, ◌*◌, ◌<◌, ◌≤◌, List, length};
+ghost use Rattle.std.specs.Prelude.{◌≡◌, ℕ, Bool, ◌*◌, ◌<◌, ◌≤◌, List, length, slice_index};
 ghost use Rattle.source.specs.Plans.{Partial, UpTo};
 ghost use Rattle.closing.specs.Sets.{contrary, holds};
 ghost use Rattle.closing.specs.Forces.{Forces, Sound, Based, Least, closure, outcome};
 ghost use Rattle.closing.specs.Closures.{closing_lawful};
+ghost use Rattle.closing.specs.Fews.{Answers, Lacks};
 ghost use Rattle.base.specs.Extending.{Extends};
 ghost use Rattle.closing.specs.Turns.{Turn, Pass, Closes, Made, Extended, ByClosure};
 
-use base::{Base, Outcome, refusal_of};
-use source::Refusal;
+use base::{Base, Outcome, check};
+use source::bytes::{UNDECIDED, byte_at};
+use source::{Refusal, WIDTH_MAX};
 
-// What a turn did: nothing to do, something decided, or no plan left.
-#[derive(Clone, Copy)]
-pub enum Step {
-    Same,
-    Changed,
-    Clash,
+// No plan agrees with what is decided.
+#[derive(Clone, Copy, Debug, PartialEq, Eq)]
+pub struct Clash;
+
+// What a turn did: it decided something or found nothing to do, or no plan is left.
+pub type Turned = Result<bool, Clash>;
+
+// None, only one, or several.
+#[derive(Clone, Copy, Debug, PartialEq, Eq)]
+pub enum Few<T> {
+    Nothing,
+    Only(T),
+    Several,
 }
 
 // Rules that force decisions, one turn at a time.
@@ -39,7 +48,7 @@ pub trait Rules {
     // How many rules come first: the dearer ones after them get a turn only where those have nothing to do.
     fn swift(&self) -> usize;
 
-    fn turn(&self, p: &mut [u8], k: usize) -> Step
+    fn turn(&self, p: &mut [u8], k: usize) -> Turned
         requires partial { Partial (forces self.now).width p.old }
         requires at { k < (forces self.now).many }
         ensures { Turn (forces self.now) k p.old p.new result };
@@ -47,22 +56,38 @@ pub trait Rules {
 
 // The entry that says the contrary, for turns.
 pub fn contrary_of(e: u16) -> u16
-    requires { e < 65535 }
     ensures { result ≡ contrary e }
 {
-    e + 1 - 2 * (e % 2)
+    if e % 2 == 0 { e + 1 } else { e - 1 }
 }
 
 // Whether an entry holds in a partial, for turns.
 pub fn entry_holds(p: &[u8], e: u16) -> bool
-    requires { e < 2 * length p.now }
     ensures { result ≡ holds p.now e }
 {
-    p[(e / 2) as usize] == (1 + e % 2) as u8
+    byte_at(p, (e / 2) as usize) == (1 + e % 2) as u8
+}
+
+// The entries of a list, read as a set, that fail a test.
+pub fn exceptions<F: Fn(u16) -> bool>(entries: &[u16], passes: F) -> Few<u16>
+    requires { (k : ℕ) → k < length entries.now → F.pre passes (slice_index entries.now k) }
+    ensures { (t : ℕ → Bool) → Answers (F.post passes) t entries.now → Lacks t entries.now result }
+{
+    let mut found = Few::Nothing;
+    for &e in entries {
+        if !passes(e) {
+            match found {
+                Few::Nothing => found = Few::Only(e),
+                Few::Only(first) if first == e => {}
+                _ => return Few::Several,
+            }
+        }
+    }
+    found
 }
 
 // Makes an entry hold, where the partial does not contradict it.
-pub fn decide(p: &mut [u8], e: u16) -> Step
+pub fn decide(p: &mut [u8], e: u16) -> Turned
     requires entry { e < 2 * length p.old }
     requires bytes { UpTo 2 p.old }
     ensures { Made p.old e p.new result }
@@ -70,50 +95,38 @@ pub fn decide(p: &mut [u8], e: u16) -> Step
     let s = (e / 2) as usize;
     let v = (1 + e % 2) as u8;
     if p[s] == v {
-        Step::Same
-    } else if p[s] == 0 {
+        Ok(false)
+    } else if p[s] == UNDECIDED {
         p[s] = v;
-        Step::Changed
+        Ok(true)
     } else {
-        Step::Clash
+        Err(Clash)
     }
 }
 
 // Every rule once, but no dear one after a change.
-fn pass<R: Rules>(rules: &R, p: &mut [u8]) -> Step
+fn pass<R: Rules>(rules: &R, p: &mut [u8]) -> Turned
     requires { Partial (R.forces rules.now).width p.old }
     ensures { Pass (R.forces rules.now) p.old p.new result }
 {
-    let n = rules.count();
     let swift = rules.swift();
     let mut changed = false;
-    let mut i = 0usize;
-    while i < n {
-        if changed && i >= swift {
-            return Step::Changed;
+    for k in 0..rules.count() {
+        if changed && k >= swift {
+            return Ok(true);
         }
-        match rules.turn(p, i) {
-            Step::Clash => return Step::Clash,
-            Step::Changed => changed = true,
-            Step::Same => {}
-        }
-        i += 1;
+        changed |= rules.turn(p, k)?;
     }
-    if changed { Step::Changed } else { Step::Same }
+    Ok(changed)
 }
 
-// Passes until nothing changes; false at a clash.
-fn close<R: Rules>(rules: &R, p: &mut [u8]) -> bool
+// Passes until nothing changes.
+fn close<R: Rules>(rules: &R, p: &mut [u8]) -> Result<(), Clash>
     requires { Partial (R.forces rules.now).width p.old }
     ensures { Closes (R.forces rules.now) p.old p.new result }
 {
-    'passes: loop {
-        match pass(rules, p) {
-            Step::Clash => return false,
-            Step::Same => return true,
-            Step::Changed => {}
-        }
-    }
+    'passes: while pass(rules, p)? {}
+    Ok(())
 }
 
 // Extends by way of lent memory of the same length; a clash leaves the partial.
@@ -123,11 +136,12 @@ fn extend_with<R: Rules>(rules: &R, p: &mut [u8], work: &mut [u8]) -> Outcome
     ensures { Extended (R.forces rules.now) p.old p.new result }
 {
     work.copy_from_slice(p);
-    if close(rules, work) {
-        p.copy_from_slice(work);
-        Outcome::Fits
-    } else {
-        Outcome::Clash
+    match close(rules, work) {
+        Ok(()) => {
+            p.copy_from_slice(work);
+            Outcome::Fits
+        }
+        Err(Clash) => Outcome::Clash,
     }
 }
 
@@ -155,17 +169,13 @@ impl<R: Rules> Base for Closing<R> {
         ensures closure { ByClosure (R.Rules.forces self.now.rules) partial.old result partial.new }
     {
         let w = self.rules.width();
-        if let Some(e) = refusal_of(w, partial) {
-            return Err(e);
-        }
-        let mut work = [0u8; 512];
+        check(w, partial)?;
+        let mut work = [UNDECIDED; WIDTH_MAX];
         Ok(extend_with(&self.rules, partial, &mut work[0..w]))
     }
 }
 
 // The closure is the least set of decisions that contains the partial and has all that the rules force.
-pub fn closure_stands<R: Rules>(rules: &R) -> u8
+pub fn closure_stands<R: Rules>(rules: &R)
     ensures { (p : List ℕ) → Least (R.forces rules.now) p (closure (R.forces rules.now) p) }
-{
-    0
-}
+{}

@@ -1,6 +1,6 @@
 -- The causes of refusals exclude one another, and a question that is taken has none.
-use Rattle.std.proofs.Common.{◌≡◌, ℕ, List, Some, None, Option, refl, ap, arith, MatchOption}
-use Rattle.source.specs.Asked.{Refused, Taken}
+use Rattle.std.proofs.Common.{◌≡◌, ℕ, List, Ok, Err, Result, refl, ap, arith}
+use Rattle.source.specs.Asked.{Refused, Taken, Checked}
 use Rattle.source.specs.declared.Refusal.{Refusal}
 use Rattle.source.specs.declared.Refusal.TheVariants.{Length, Value, Mark, Wide}
 
@@ -31,11 +31,11 @@ no_cause w pins group place Mark t b = b.2 t.2
 no_cause w pins group place Wide t b = omega (arith, t.3, b.3)
 
 -- so the cause found is the only one
-pub cause_only : (w : ℕ) (pins group place : List ℕ) (r : Option Refusal) → MatchOption r (Taken w pins group place) (Refused w pins group place) → (e : Refusal) → Refused w pins group place e → r ≡ Some e
-cause_only w pins group place (Some f) h e b = ap Some (one_cause w pins group place f e h b)
-cause_only w pins group place None h e b = absurd (no_cause w pins group place e h b)
+pub cause_only : (w : ℕ) (pins group place : List ℕ) (r : Result Unit Refusal) → Checked w pins group place r → (e : Refusal) → Refused w pins group place e → r ≡ Err e
+cause_only w pins group place (Err f) h e b = ap Err (one_cause w pins group place f e h b)
+cause_only w pins group place (Ok _) h e b = absurd (no_cause w pins group place e h b)
 
 -- and none is found only where there is none
-pub cause_none : (w : ℕ) (pins group place : List ℕ) (r : Option Refusal) → MatchOption r (Taken w pins group place) (Refused w pins group place) → Taken w pins group place → r ≡ None
-cause_none w pins group place (Some f) h t = absurd (no_cause w pins group place f t h)
-cause_none w pins group place None h t = refl
+pub cause_none : (w : ℕ) (pins group place : List ℕ) (r : Result Unit Refusal) → Checked w pins group place r → Taken w pins group place → r ≡ Ok tt
+cause_none w pins group place (Err f) h t = absurd (no_cause w pins group place f t h)
+cause_none w pins group place (Ok tt) h t = refl

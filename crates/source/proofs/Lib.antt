@@ -1,3 +1,2 @@
 -- Lemmas that the tests on bytes share.
-pub mod Split
 pub mod Causes

@@ -2,6 +2,7 @@
 --   Fit      the lengths that a question wants
 --   Refused  the cause of each refusal
 --   Taken    a question that is not refused
+--   Checked  the refusal, or that none applies
 --   Asked    the whole contract of a question
 use Rattle.std.specs.Prelude.{◌≡◌, ℕ, ◌<◌, ◌≤◌, List, length, Ok, Err, Result}
 use Rattle.source.specs.declared.Refusal.{Refusal}
@@ -24,6 +25,11 @@ Refused w pins group place Wide = Fit w pins group place × UpTo 2 pins × UpTo 
 -- no refusal applies
 abbrev pub Taken : ℕ → List ℕ → List ℕ → List ℕ → Type 0
 Taken w pins group place = Fit w pins group place × UpTo 2 pins × UpTo 1 group × (w ≤ 512)
+
+-- the refusal with its cause, or that none applies
+abbrev pub Checked : ℕ → List ℕ → List ℕ → List ℕ → Result Unit Refusal → Type 0
+Checked w pins group place (Ok _) = Taken w pins group place
+Checked w pins group place (Err e) = Refused w pins group place e
 
 -- a refusal with its cause and the place as before, or a serving plan in the place, or nothing, exactly when no plan
 -- serves, with the place as before

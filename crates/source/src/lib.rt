@@ -12,6 +12,7 @@ pub mod bytes;
 pub const WIDTH_MAX: usize = 512;
 
 // What a question finds: a serving plan, now in the place, or that there is none.
+// Stays: the plan goes into lent memory, so neither answer has a value that an Option could hold.
 #[derive(Clone, Copy, Debug, PartialEq, Eq)]
 pub enum Answer {
     Plan,
@@ -22,25 +23,20 @@ pub enum Answer {
 #[derive(Clone, Copy, Debug, PartialEq, Eq)]
 pub enum Refusal {
     // pins, group or place are not as long as the width
-    Length,
+    Length = 1,
     // a byte of the pins is over 2
-    Value,
+    Value = 2,
     // a byte of the group is over 1
-    Mark,
+    Mark = 3,
     // the source has more statements than WIDTH_MAX
-    Wide,
+    Wide = 4,
 }
 
 impl Refusal {
     pub fn number(self) -> u8
         ensures { result ≡ number_of self }
     {
-        match self {
-            Refusal::Length => 1,
-            Refusal::Value => 2,
-            Refusal::Mark => 3,
-            Refusal::Wide => 4,
-        }
+        self as u8
     }
 }
 

@@ -12,7 +12,7 @@ pub extend_with-requires : goal.extend_with-requires
 extend_with-requires g c =
     let e = c.width-w.ensures in
     let n = (g.R.Rules.sound c.args.self.now.rules).narrow in
-    let p = c.in_default.ensures in
+    let p = c.in_ok-check.ensures in
     record {
       work = front_long c.width-w.result _ (omega (arith, e, n)) ∙ sym p.0;
       partial = subst (λ w. Partial w c.args.partial.now) e p;
@@ -22,6 +22,6 @@ pub returns : goal.returns
 returns g c =
     let R = g.R.Rules.forces c.args.self.now.rules in
     record {
-      extends = extends_from R c.args.partial.now c.extend_with.new.p c.extend_with.result (subst (λ w. Partial w c.args.partial.now) c.width-w.ensures c.in_default.ensures) c.extend_with.ensures;
+      extends = extends_from R c.args.partial.now c.extend_with.new.p c.extend_with.result (subst (λ w. Partial w c.args.partial.now) c.width-w.ensures c.in_ok-check.ensures) c.extend_with.ensures;
       closure = by_closure R (g.R.Rules.sound c.args.self.now.rules) c.args.partial.now c.extend_with.new.p c.extend_with.result c.extend_with.ensures;
     }

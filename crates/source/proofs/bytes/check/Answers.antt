@@ -1,5 +1,5 @@
 use Rattle.source.proofs.Causes.{cause_only, cause_none}
-use Rattle.source.proofs.bytes.refusal.Goals as goal
+use Rattle.source.proofs.bytes.check.Goals as goal
 
 pub returns : goal.returns
 returns c = record {
