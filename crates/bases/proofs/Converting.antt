@@ -1,13 +1,12 @@
 -- A turn over the tables is the turn of a rule of the rulebook.
-use Rattle.std.proofs.Common.{◌≡◌, ℕ, ◌+◌, ◌*◌, ◌/◌, ◌<◌, ◌≤◌, Bool, true, false, eqb, List, [], length, get_or, take, drop, sym, refl, ap, ◌∙◌, subst, inl, inr, arith}
+use Rattle.std.proofs.Common.{◌≡◌, ℕ, ◌+◌, ◌*◌, ◌/◌, ◌<◌, ◌≤◌, Bool, true, false, Ok, Err, Result, eqb, List, [], length, get_or, take, drop, sym, refl, ap, ◌∙◌, subst, inl, inr, arith}
 use Rattle.std.proofs.Math.Option.{none}
 use Rattle.std.proofs.lemmas.Bool.{cases_lt, both_ways, and_parts, and_from, eqb-true, eq-eqb, cases_eq}
 use Rattle.std.proofs.lemmas.List.{length-take, length-drop}
 use Rattle.closing.specs.Sets.{holds, contrary, move, holds_once}
 use Rattle.closing.specs.Forces.{Forces, KeptAt, Barred}
 use Rattle.closing.specs.Turns.{Turn}
-use Rattle.closing.specs.declared.Step.{Step}
-use Rattle.closing.specs.declared.Step.TheVariants.{Same, Changed, Clash}
+use Rattle.closing.specs.declared.Clash.{Clash}
 use Rattle.stable.specs.Books.{stmt, negated, Book, rows, row}
 use Rattle.stable.specs.Decide.{book_forces}
 use Rattle.stable.proofs.Forced.{row_to, row_from, stated_to, stated_from, unf_from_set, unf_to_all, force_row, force_statement, force_last, bar_row, bar_statement, bar_last, both_values, empties_to, empties_from}
@@ -20,12 +19,12 @@ use Rattle.turns.proofs.Sealed.{many, rule_of_lem, table_sound}
 use Rattle.turns.proofs.Steps.{head_some, head_none}
 
 -- a turn under a law is the turn of a rule that keeps the same sets
-pub law_turn : (R : Forces) (k : ℕ) (L : (ℕ → Bool) → Type 0) (p q : List ℕ) (step : Step) →
+pub law_turn : (R : Forces) (k : ℕ) (L : (ℕ → Bool) → Type 0) (p q : List ℕ) (step : Result Bool Clash) →
     ((C : ℕ → Bool) → KeptAt R k C → L C) → (L (holds p) → KeptAt R k (holds p)) → R.bar k (holds p) ≡ false →
     ((C : ℕ → Bool) (e : ℕ) → e < 2 * length p → C e ≡ true → C (contrary e) ≡ true → Barred R C) → LawTurn L p q step → Turn R k p q step
-law_turn R k L p q Same to from bar both t = (t.0, from t.1, bar)
-law_turn R k L p q Changed to from bar both t = record { long = t.long; small = t.small; fewer = t.fewer; forced = λ C h u. t.forced C (to C h) u; grows = t.grows }
-law_turn R k L p q Clash to from bar both t = λ C h u. let r = t C (to C h) u in both C r.0 r.1 r.2 r.3
+law_turn R k L p q (Ok false) to from bar both t = (t.0, from t.1, bar)
+law_turn R k L p q (Ok true) to from bar both t = record { long = t.long; small = t.small; fewer = t.fewer; forced = λ C h u. t.forced C (to C h) u; grows = t.grows }
+law_turn R k L p q (Err c) to from bar both t = λ C h u. let r = t C (to C h) u in both C r.0 r.1 r.2 r.3
 
 -- a head is missing only at 65,535
 headless : (h : ℕ) → head_of h ≡ none → h ≡ 65535
@@ -89,7 +88,7 @@ module _ (n : ℕ) (rs : List RuleRow) (es : List ℕ) (ok : TableOk n rs es) wh
       let m = eqb-true _ _ (and_parts (negated e) _ u).0 in let odd : 2 * stmt e + 1 ≡ e = omega arith in
       (unf_to_all (book_of n rs es) C e u (C e) (λ U w f h. move C _ _ odd (d U w f (stmt e) h))).1
 
-module _ (p : List ℕ) (rs : List RuleRow) (es : List ℕ) (ok : TableOk (length p) rs es) (q : List ℕ) (step : Step) where
+module _ (p : List ℕ) (rs : List RuleRow) (es : List ℕ) (ok : TableOk (length p) rs es) (q : List ℕ) (step : Result Bool Clash) where
   -- a row that is not headless with an empty body
   pub row_turns : (i : ℕ) → i < length rs → bodiless (get_or rs i blank) ≡ false →
       LawTurn (λ C. RowKept C (rule_at rs es i)) p q step → Turn (book_forces (book_of (length p) rs es)) i p q step
@@ -123,8 +122,8 @@ module _ (p : List ℕ) (rs : List RuleRow) (es : List ℕ) (ok : TableOk (lengt
 
 -- a headless rule with an empty body bars every set
 pub bodiless_turn : (p : List ℕ) (rs : List RuleRow) (es : List ℕ) → TableOk (length p) rs es → (i : ℕ) → i < length rs → bodiless (get_or rs i blank) ≡ true →
-    Turn (book_forces (book_of (length p) rs es)) i p p Clash
-bodiless_turn p rs es ok i l b C k u =
+    (c : Clash) → Turn (book_forces (book_of (length p) rs es)) i p p (Err c)
+bodiless_turn p rs es ok i l b c C k u =
     let t = and_parts (eqb (get_or rs i blank).head 65535) (eqb (get_or rs i blank).count 0) b in
     let li : i < rows (book_of (length p) rs es) = omega (arith, many (length p) rs es) in (
       i,

@@ -1,3 +1,2 @@
 pub mod Converting
-pub mod Slicing
 pub mod Extending

@@ -1,4 +1,4 @@
 -- The rulebook base.
 pub mod Bodiless
-pub mod Sealed
+pub mod Tables
 pub mod ByRules

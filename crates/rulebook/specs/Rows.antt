@@ -1,7 +1,8 @@
 -- Rows of rules and entries within their counts.
 --   row_in, rows_in, entries_in   whether they are
 --   padded                     a list and blanks after it
-use Rattle.std.specs.Prelude.{ℕ, ◌+◌, ◌-◌, ◌*◌, Bool, true, ◌&&◌, ◌||◌, List, [], ◌∷◌, ◌++◌, length, replicate, ◌==◌, nat_le, nat_lt}
+use Rattle.std.specs.Prelude.{ℕ, ◌+◌, ◌-◌, ◌*◌, Bool, ◌&&◌, ◌||◌, List, ◌++◌, length, replicate, ◌==◌, nat_le, nat_lt}
+use Rattle.std.specs.List.{list_all}
 use Rattle.rulebook.specs.declared.row.RuleRow.{RuleRow}
 
 -- what stands past the last row
@@ -14,13 +15,11 @@ row_in width used r = (r.head == 65535 || nat_lt r.head width) && nat_le (r.firs
 
 -- each row does
 abbrev pub rows_in : ℕ → ℕ → List RuleRow → Bool
-rows_in width used [] = true
-rows_in width used (r ∷ rs) = row_in width used r && rows_in width used rs
+rows_in width used rows = list_all (row_in width used) rows
 
 -- each entry names a statement below the width
 abbrev pub entries_in : ℕ → List ℕ → Bool
-entries_in width [] = true
-entries_in width (e ∷ es) = nat_lt e (2 * width) && entries_in width es
+entries_in width entries = list_all (λ e. nat_lt e (2 * width)) entries
 
 -- xs, then x up to the room
 abbrev pub padded : {X : Type 0} → ℕ → X → List X → List X

@@ -1,7 +1,7 @@
 -- What sealing does.
---   limited, sealable   which tables are sealed
---   Holds               what the place then holds
---   Sealing             the whole contract
+--   limited, within, sealable   which tables are sealed
+--   Holds                       what the place then holds
+--   Sealing                     the whole contract
 use Rattle.std.specs.Prelude.{◌≡◌, ℕ, Bool, true, false, ◌&&◌, List, length, take, Ok, Err, Result, nat_le}
 use Rattle.rulebook.specs.declared.row.RuleRow.{RuleRow}
 use Rattle.rulebook.specs.declared.sealed.Rulebook.{Rulebook}
@@ -13,9 +13,14 @@ use Rattle.rulebook.specs.Rows.{blank, rows_in, entries_in, padded}
 abbrev pub number_of : SealRefusal → ℕ
 number_of Outside = 26
 
--- at most 512 names, 2,048 rules and 8,192 entries
+-- at most 512 names, 2,048 rules and 8,192 entries; in figures, so that a changed constant is refused
 abbrev pub limited : ℕ → ℕ → ℕ → Bool
 limited names rules used = nat_le names 512 && (nat_le rules 2048 && nat_le used 8192)
+
+-- rows and entries are no more than their limits, and every head, run and entry lies within the counts
+abbrev pub within : ℕ → List RuleRow → List ℕ → Bool
+within names rows entries =
+    limited names (length rows) (length entries) && (rows_in names (length entries) rows && entries_in names entries)
 
 -- the counts are within their limits, no table is shorter than its count, and every head, run and entry counted lies within the counts
 abbrev pub sealable : ℕ → ℕ → ℕ → List RuleRow → List ℕ → Bool

@@ -1,9 +1,9 @@
 // Sealed rulebooks: rows of rules and entries that lie within their counts, and the sealing that makes sure of it.
 #![tactic(auto)]
 
-ghost use Rattle.std.specs.Prelude.{◌≡◌, ℕ, ◌*◌, ◌<◌, ◌≤◌, true, length, replicate, slice_index, slice_index_or};
-ghost use Rattle.rulebook.specs.Rows.{blank, padded, row_in, rows_in, entries_in};
-ghost use Rattle.rulebook.specs.Sealing.{limited, sealable, Sealing, number_of};
+ghost use Rattle.std.specs.Prelude.{◌≡◌, ◌<◌, ◌≤◌, length, take, replicate, IfOk, OnErr};
+ghost use Rattle.rulebook.specs.Rows.{blank, padded, rows_in, entries_in};
+ghost use Rattle.rulebook.specs.Sealing.{within, Sealing, number_of};
 
 use row::RuleRow;
 use sealed::Rulebook;
@@ -18,111 +18,59 @@ pub const RULES_MAX: usize = 2048;
 pub const ENTRIES_MAX: usize = 8192;
 
 // Why tables are not sealed: one is short, or a head, run or entry is outside its counts.
-#[derive(Clone, Copy)]
+#[derive(Clone, Copy, Debug, PartialEq, Eq)]
 pub enum SealRefusal {
-    Outside,
+    Outside = 26,
 }
 
 impl SealRefusal {
     pub fn number(self) -> u8
         ensures { result ≡ number_of self }
     {
-        match self {
-            SealRefusal::Outside => 26,
-        }
+        self as u8
     }
-}
-
-fn row_in(width: usize, used: usize, r: RuleRow) -> bool
-    ensures { result ≡ row_in width used r }
-{
-    (r.head == RuleRow::NO_HEAD || (r.head as usize) < width)
-        && r.first as usize + r.count as usize <= used
 }
 
 fn rows_in(width: usize, used: usize, rows: &[RuleRow]) -> bool
     ensures { result ≡ rows_in width used rows.now }
 {
-    for r in rows {
-        if !row_in(width, used, *r) {
-            return false;
-        }
-    }
-    true
+    rows.iter().all(|r| r.is_within(width, used))
 }
 
 fn entries_in(width: usize, entries: &[u16]) -> bool
-    requires { width ≤ 512 }
+    requires { width ≤ NAMES_MAX }
     ensures { result ≡ entries_in width entries.now }
 {
-    for e in entries {
-        if *e as usize >= 2 * width {
-            return false;
-        }
-    }
-    true
+    entries.iter().all(|e| (*e as usize) < 2 * width)
 }
 
-fn is_limited(names: usize, rules: usize, used: usize) -> bool
-    ensures { result ≡ limited names rules used }
+// Whether the rows and entries are no more than their limits and lie within their counts.
+fn is_sealable(names: usize, rows: &[RuleRow], entries: &[u16]) -> bool
+    ensures { result ≡ within names rows.now entries.now }
 {
-    names <= NAMES_MAX && rules <= RULES_MAX && used <= ENTRIES_MAX
+    names <= NAMES_MAX
+        && rows.len() <= RULES_MAX
+        && entries.len() <= ENTRIES_MAX
+        && rows_in(names, entries.len(), rows)
+        && entries_in(names, entries)
 }
 
-fn is_sealable(names: usize, rules: usize, used: usize, rows: &[RuleRow], entries: &[u16]) -> bool
-    ensures { result ≡ sealable names rules used rows.now entries.now }
+// The first so many items, if there are as many.
+fn counted<T>(items: &[T], count: usize) -> Result<&[T], SealRefusal>
+    ensures ok { IfOk result (λ front. (count ≤ length items.now) × (front.now ≡ take count items.now)) }
+    ensures short { OnErr result (length items.now < count) }
 {
-    is_limited(names, rules, used)
-        && rules <= rows.len()
-        && used <= entries.len()
-        && rows_in(names, used, &rows[0..rules])
-        && entries_in(names, &entries[0..used])
+    items.get(..count).ok_or(SealRefusal::Outside)
 }
 
-fn padded_rows(rows: &[RuleRow]) -> [RuleRow; 2048]
-    requires { length rows.now ≤ 2048 }
-    ensures { result ≡ padded 2048 blank rows.now }
+// The items, and after them the filler.
+fn padded<T: Copy, const N: usize>(filler: T, items: &[T]) -> [T; N]
+    requires { length items.now ≤ N }
+    ensures { result ≡ padded N filler items.now }
 {
-    let mut all = [RuleRow::EMPTY; 2048];
-    all[0..rows.len()].copy_from_slice(rows);
+    let mut all = [filler; N];
+    all[..items.len()].copy_from_slice(items);
     all
-}
-
-fn padded_entries(entries: &[u16]) -> [u16; 8192]
-    requires { length entries.now ≤ 8192 }
-    ensures { result ≡ padded 8192 0 entries.now }
-{
-    let mut all = [0u16; 8192];
-    all[0..entries.len()].copy_from_slice(entries);
-    all
-}
-
-// A sealed rulebook of tables within their counts.
-fn whole(
-    names: usize,
-    rules: usize,
-    used: usize,
-    rows: [RuleRow; 2048],
-    entries: [u16; 8192],
-) -> Rulebook
-    requires rows_long { length rows ≡ 2048 }
-    requires entries_long { length entries ≡ 8192 }
-    requires limits { (names ≤ 512) × (rules ≤ 2048) × (used ≤ 8192) }
-    requires sound { (k : ℕ) → k < rules → row_in names used (slice_index_or rows k blank) ≡ true }
-    requires entered { (k : ℕ) → k < used → slice_index entries k < 2 * names }
-    ensures width { result.width ≡ names }
-    ensures rules { result.rules ≡ rules }
-    ensures used { result.used ≡ used }
-    ensures rows { result.rows ≡ rows }
-    ensures entries { result.entries ≡ entries }
-{
-    Rulebook {
-        width: names,
-        rules,
-        used,
-        rows,
-        entries,
-    }
 }
 
 impl Rulebook {
@@ -138,8 +86,8 @@ impl Rulebook {
             width: 0,
             rules: 0,
             used: 0,
-            rows: [RuleRow::EMPTY; 2048],
-            entries: [0; 8192],
+            rows: [RuleRow::EMPTY; RULES_MAX],
+            entries: [0; ENTRIES_MAX],
         }
     }
 
@@ -155,12 +103,18 @@ impl Rulebook {
     ) -> Result<(), SealRefusal>
         ensures { Sealing names rules used rows.now entries.now self.old result self.new }
     {
-        if !is_sealable(names, rules, used, rows, entries) {
+        let rows = counted(rows, rules)?;
+        let entries = counted(entries, used)?;
+        if !is_sealable(names, rows, entries) {
             return Err(SealRefusal::Outside);
         }
-        let all_rows = padded_rows(&rows[0..rules]);
-        let all_entries = padded_entries(&entries[0..used]);
-        *self = whole(names, rules, used, all_rows, all_entries);
+        *self = Rulebook {
+            width: names,
+            rules,
+            used,
+            rows: padded(RuleRow::EMPTY, rows),
+            entries: padded(0, entries),
+        };
         Ok(())
     }
 }

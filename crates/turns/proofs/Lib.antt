@@ -3,4 +3,5 @@ pub mod Loops
 pub mod Marks
 pub mod Supported
 pub mod Sealed
-pub mod Chains
+pub mod Chaining
+pub mod Tables

@@ -1,5 +1,5 @@
 -- All cancelled and backchain: the turn of one statement, by the rows that support it.
-use Rattle.std.proofs.Common.{◌≡◌, ℕ, ◌+◌, ◌*◌, ◌/◌, ◌<◌, Bool, true, false, ◌≢◌, List, length, get_or, sym, refl, ap, ◌∙◌, subst, inl, inr, arith}
+use Rattle.std.proofs.Common.{◌≡◌, ℕ, ◌+◌, ◌*◌, ◌/◌, ◌<◌, Bool, true, false, Ok, Result, ◌≢◌, List, length, get_or, sym, refl, ap, ◌∙◌, subst, inl, inr, arith}
 use Rattle.std.proofs.Math.Option.{some}
 use Rattle.std.proofs.lemmas.Bool.{eqb-true, cases_eq, both_ways, eq-eqb}
 use Rattle.std.proofs.lemmas.List.{get_or-map}
@@ -11,9 +11,8 @@ use Rattle.rulebook.specs.Rows.{blank}
 use Rattle.closing.specs.Turns.{Made}
 use Rattle.source.specs.Plans.{UpTo}
 use Rattle.rulebook.specs.declared.row.RuleRow.{RuleRow}
-use Rattle.closing.specs.declared.Step.{Step}
-use Rattle.closing.specs.declared.Step.TheVariants.{Same}
-use Rattle.turns.specs.declared.Support.TheVariants.{Nobody, Only, Several}
+use Rattle.closing.specs.declared.Clash.{Clash}
+use Rattle.closing.specs.declared.Few.TheVariants.{Nothing, Only, Several}
 use Rattle.stable.proofs.Theory.{contrary_twice}
 use Rattle.turns.proofs.Steps.{head_some, decided_turn}
 use Rattle.turns.proofs.Marks.{head_of_lem}
@@ -36,7 +35,7 @@ module _ (p : List ℕ) (rs : List RuleRow) (es : List ℕ) (s : ℕ) (small : s
   headed : (i : ℕ) → i < length rs → Supports p (get_or rs i blank) es s true → (rule_at rs es i).head ≡ some s
   headed i l t = ap (λ z. z.head) (at i l) ∙ head_some (get_or rs i blank).head (let z = t.0 in λ q. omega arith) ∙ ap some t.0
 
-  pub several_turn : SupportIs p rs es s Several → LawTurn (StatementKept rs es s) p p Same
+  pub several_turn : SupportIs p rs es s Several → LawTurn (StatementKept rs es s) p p (Ok false)
   several_turn (i, j, li, lj, ne, si, sj) = (
     refl,
     record {
@@ -48,13 +47,13 @@ module _ (p : List ℕ) (rs : List RuleRow) (es : List ℕ) (s : ℕ) (small : s
     },
   )
 
-  pub nobody_turn : (q : List ℕ) (t : Step) → s < length p → UpTo 2 p → SupportIs p rs es s Nobody → Made p (2 * s + 1) q t → LawTurn (StatementKept rs es s) p q t
+  pub nobody_turn : (q : List ℕ) (t : Result Bool Clash) → s < length p → UpTo 2 p → SupportIs p rs es s Nothing → Made p (2 * s + 1) q t → LawTurn (StatementKept rs es s) p q t
   nobody_turn q t l by none' d = decided_turn (StatementKept rs es s) p q (2 * s + 1) t (omega arith) by d
       (λ C k u. k.all_cancelled (λ i li hd. cancels C u i li (none' i li) hd))
       (λ h. record { all_cancelled = λ _. h; backchain = λ k lk hk ds others e m. absurd (holds_once p (2 * s) ds (subst (λ z. holds p z ≡ true) (sym (contrary_twice s)) h)) })
 
   -- s holds and only row i supports it
-  pub only_turn : (q : List ℕ) (t : Step) (i : ℕ) → get_or p s 0 ≡ 1 → SupportIs p rs es s (Only i) →
+  pub only_turn : (q : List ℕ) (t : Result Bool Clash) (i : ℕ) → get_or p s 0 ≡ 1 → SupportIs p rs es s (Only i) →
       LawTurn (AllOf (HoldAt (body_of es (get_or rs i blank))) (length (body_of es (get_or rs i blank)))) p q t → LawTurn (StatementKept rs es s) p q t
   only_turn q t i one (li, si, others) = turn_by (AllOf (HoldAt b) (length b)) (StatementKept rs es s) p q t
       (λ C k u j lj. k.backchain i li (headed i li si) (u (2 * s) (eq-eqb _ _ (let hf : (2 * s) / 2 ≡ s = omega arith in let x = ap (λ z. get_or p z 0) hf in omega arith)))
@@ -70,7 +69,7 @@ module _ (p : List ℕ) (rs : List RuleRow) (es : List ℕ) (s : ℕ) (small : s
       b : List ℕ
       b = body_of es (get_or rs i blank)
 
-  pub only_idle : (i : ℕ) → get_or p s 0 ≢ 1 → SupportIs p rs es s (Only i) → LawTurn (StatementKept rs es s) p p Same
+  pub only_idle : (i : ℕ) → get_or p s 0 ≢ 1 → SupportIs p rs es s (Only i) → LawTurn (StatementKept rs es s) p p (Ok false)
   only_idle i ne (li, si, others) = (
     refl,
     record {

@@ -1,38 +1,37 @@
--- A chain through the rows of each head, from the last row to the first. A place in it is a row's number plus 1; 0 ends it.
-use Rattle.std.specs.Prelude.{◌≡◌, ℕ, ◌+◌, ◌<◌, ◌≤◌, Bool, true, false, ◌≢◌, List, length, get_or, slice_index, slice_index_or}
+-- A chain through the rows of each head, from the last row to the first.
+--   newest_row   the last row of a head among the first rows
+--   Chained      the chains of the first rows
+--   Walked       how far a walk down a chain has come
+use Rattle.std.specs.Prelude.{◌≡◌, ℕ, zero, suc, ◌<◌, ◌≤◌, true, false, ◌≢◌, List, length, Option, Some, None, if◌then◌else◌, ◌==◌, slice_index_or}
 use Rattle.rulebook.specs.declared.row.RuleRow.{RuleRow}
 use Rattle.rulebook.specs.Rows.{blank}
 use Rattle.turns.specs.Table.{Supports}
 
--- newest lies above every row of its head
-abbrev pub Tops : List RuleRow → ℕ → List ℕ → Type 0
-Tops rows n newest = (x : (k : ℕ) × (k < n) × ((get_or rows k blank).head < length newest)) → x.0 < slice_index newest (get_or rows x.0 blank).head
+abbrev pub head_at : List RuleRow → ℕ → ℕ
+head_at rows i = (slice_index_or rows i blank).head
 
--- older lies above every earlier row with the same head
-abbrev pub Links : List RuleRow → ℕ → List ℕ → List ℕ → Type 0
-Links rows n newest older =
-    (x : (i k : ℕ) × (i < n) × (k < i) × ((get_or rows i blank).head < length newest) × ((get_or rows k blank).head ≡ (get_or rows i blank).head)) → x.1 < slice_index older x.0
+-- the last of the rows below n that has the head s
+abbrev pub newest_row : List RuleRow → ℕ → ℕ → Option ℕ
+newest_row rows s zero = None
+newest_row rows s (suc n) = if head_at rows n == s then Some n else newest_row rows s n
 
--- newest leads to a row of its head
-abbrev pub Leads : List RuleRow → List ℕ → Type 0
-Leads rows newest = (x : (s j : ℕ) × (slice_index newest s ≡ j + 1)) → (get_or rows x.1 blank).head ≡ x.0
+-- newest leads to the last row of each head
+abbrev pub Tops : List RuleRow → ℕ → List (Option ℕ) → Type 0
+Tops rows n newest = (s : ℕ) → s < length newest → slice_index_or newest s None ≡ newest_row rows s n
 
--- older leads to a row with the same head
-abbrev pub Joins : List RuleRow → ℕ → List ℕ → Type 0
-Joins rows n older = (x : (i j : ℕ) × (i < n) × (slice_index older i ≡ j + 1)) → (get_or rows x.1 blank).head ≡ (get_or rows x.0 blank).head
+-- older leads from each of the rows below n with a head to the one before it with the same head
+abbrev pub Links : List RuleRow → ℕ → ℕ → List (Option ℕ) → Type 0
+Links rows n heads older = (i : ℕ) → i < n → head_at rows i < heads → slice_index_or older i None ≡ newest_row rows (head_at rows i) i
 
--- the rows below n: newest leads to the last of each head, older from each to the one before it with the same head
-pub record Chained (rows : List RuleRow) (n : ℕ) (newest older : List ℕ) : Type 0 where
-  pub bound : (s : ℕ) → slice_index newest s ≤ n
-  pub down : (i : ℕ) → i < n → slice_index older i ≤ i
-  pub top : (k : ℕ) → k < n → (get_or rows k blank).head < length newest → k < slice_index newest (get_or rows k blank).head
-  pub link : (i k : ℕ) → i < n → k < i → (get_or rows i blank).head < length newest → (get_or rows k blank).head ≡ (get_or rows i blank).head → k < slice_index older i
-  pub leads : (s j : ℕ) → slice_index newest s ≡ j + 1 → (get_or rows j blank).head ≡ s
-  pub joins : (i j : ℕ) → i < n → slice_index older i ≡ j + 1 → (get_or rows j blank).head ≡ (get_or rows i blank).head
+-- the chains of the rows below n
+pub record Chained (rows : List RuleRow) (n : ℕ) (newest older : List (Option ℕ)) : Type 0 where
+  pub tops : Tops rows n newest
+  pub links : Links rows n (length newest) older
 
--- a walk down the chain of s has come to the place i: what lies above it and supports s is seen
-pub record Walked (p : List ℕ) (rows : List RuleRow) (es : List ℕ) (s i : ℕ) (seen : Bool) (at : ℕ) : Type 0 where
-  pub here : i ≤ length rows
-  pub mine : (j : ℕ) → i ≡ j + 1 → (get_or rows j blank).head ≡ s
-  pub above : (k : ℕ) → k < length rows → i ≤ k → (seen ≡ true → k ≢ at) → Supports p (slice_index_or rows k blank) es s false
-  pub found : seen ≡ true → (at < length rows) × (i ≤ at) × Supports p (slice_index_or rows at blank) es s true
+-- a walk down the chain of s has come to the rows below n: those at n and above are seen
+pub record Walked (p : List ℕ) (rows : List RuleRow) (es : List ℕ) (s : ℕ) (next only : Option ℕ) : Type 0 where
+  pub n : ℕ
+  pub here : n ≤ length rows
+  pub left : next ≡ newest_row rows s n
+  pub seen : (k : ℕ) → k < length rows → n ≤ k → only ≢ Some k → Supports p (slice_index_or rows k blank) es s false
+  pub found : (k : ℕ) → only ≡ Some k → (k < length rows) × (n ≤ k) × Supports p (slice_index_or rows k blank) es s true

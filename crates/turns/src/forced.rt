@@ -1,0 +1,71 @@
+// Forward and contraposition: what one rule forces.
+ghost use Rattle.std.specs.Prelude.{◌≡◌, ◌<◌, ◌≤◌, length, IfSome, MatchBool};
+ghost use Rattle.source.specs.Plans.{UpTo, Partial};
+ghost use Rattle.closing.specs.Fews.{Lacks};
+ghost use Rattle.closing.specs.Sets.{holds, Codes};
+ghost use Rattle.stable.specs.Books.{HeadFails};
+ghost use Rattle.turns.specs.Meaning.{lifted};
+ghost use Rattle.turns.specs.Table.{LawTurn, RowKept, rule_from};
+
+use crate::table::Table;
+use crate::{failing, holding};
+use closing::{Clash, Few, Turned, contrary_of, decide, entry_holds, exceptions};
+
+// Which entries of a body, read as a set, do not hold.
+fn lacking(p: &[u8], body: &[u16]) -> Few<u16>
+    ensures { Lacks (holds p.now) body.now result }
+{
+    exceptions(body, |e| entry_holds(p, e))
+}
+
+// Whether a rule's head fails or is missing.
+fn head_fails(p: &[u8], head: Option<usize>) -> bool
+    requires { IfSome head (λ s. s < 512) }
+    ensures { MatchBool result (HeadFails (holds p.now) (lifted head)) (HeadFails (holds p.now) (lifted head) → ⊥) }
+{
+    head.is_none_or(|s| entry_holds(p, failing(s)))
+}
+
+// Forward and contraposition for one rule.
+fn rule_step(p: &mut [u8], head: Option<usize>, body: &[u16]) -> Turned
+    requires narrow { length p.old ≤ 512 }
+    requires bytes { UpTo 2 p.old }
+    requires headed { IfSome head (λ s. s < length p.old) }
+    requires codes { Codes (length p.old) body.now }
+    ensures { LawTurn (λ C. RowKept C (rule_from head body.now)) p.old p.new result }
+{
+    match lacking(p, body) {
+        Few::Nothing => match head {
+            Some(s) => decide(p, holding(s)),
+            None => {
+                if body.is_empty() {
+                    Ok(false)
+                } else {
+                    Err(Clash)
+                }
+            }
+        },
+        Few::Only(e) => {
+            if head_fails(p, head) {
+                decide(p, contrary_of(e))
+            } else {
+                Ok(false)
+            }
+        }
+        Few::Several => Ok(false),
+    }
+}
+
+impl<'a> Table<'a> {
+    ghost use Rattle.turns.specs.Table.{rule_at};
+
+    // Forward and contraposition for the rule in row i.
+    pub fn row_step(&self, p: &mut [u8], i: usize) -> Turned
+        requires row { i < length self.now.rows.now }
+        requires partial { Partial self.now.width p.old }
+        ensures { LawTurn (λ C. RowKept C (rule_at self.now.rows.now self.now.entries.now i)) p.old p.new result }
+    {
+        let row = self.rows[i];
+        rule_step(p, self.head(row), self.body(row))
+    }
+}
