@@ -7,15 +7,11 @@ ghost use Rattle.first.specs.Agenda.{TurnsStand};
 use base::Base;
 
 // The tree of extensions gives the first plan that agrees with a partial, and none exactly when none agrees.
-pub fn first_stands<B: Base>(base: &B) -> u8
+pub fn first_stands<B: Base>(base: &B)
     ensures { FirstStands (B.wide base.now) (B.plan base.now) (B.outcome base.now) }
-{
-    0
-}
+{}
 
 // One extension keeps the answer and takes one off those left.
-pub fn turns_stand<B: Base>(base: &B) -> u8
+pub fn turns_stand<B: Base>(base: &B)
     ensures { TurnsStand (B.wide base.now) (B.outcome base.now) }
-{
-    0
-}
+{}

@@ -3,12 +3,12 @@
 
 ghost use Rattle.std.specs.Prelude.{◌≡◌, ◌<◌, length, MatchBool};
 ghost use Rattle.source.specs.Plans.{Partial};
-ghost use Rattle.narrow.specs.Meeting.{MeetingPlan, CanFail, MayMeet, narrowed, Ahead, Narrows, CutStands};
+ghost use Rattle.narrow.specs.Meeting.{MeetingPlan, CanFail, SomeCanFail, MayMeet, narrowed, CutStands};
 ghost use Rattle.narrow.specs.Meetings.{meeting_lawful};
 
-use base::{Base, Outcome, refusal_of};
-use source::Refusal;
-use source::bytes::{byte_at, fails_marked, marks_any};
+use base::{Base, Outcome, check};
+use source::bytes::{FAILS, MARKED, UNDECIDED, fails_marked, marks_any};
+use source::{Refusal, WIDTH_MAX};
 
 // A base and a group: its plans are those of the base that meet the group, all of them where the group marks nothing.
 #[derive(Drop)]
@@ -26,96 +26,38 @@ impl<'a, 'b, B> Meeting<'a, 'b, B> {
     }
 }
 
-// Whether the statement is undecided and the base below extends the partial with it failing.
-fn can_fail<B: Base>(base: &B, partial: &[u8], trial: &mut [u8], k: usize) -> bool
-    requires partial { Partial (B.wide base.now) partial.now }
-    requires trial { length trial.old ≡ B.wide base.now }
-    requires at { k < length partial.now }
-    ensures { MatchBool result (CanFail (B.outcome base.now) partial.now k) (CanFail (B.outcome base.now) partial.now k → ⊥) }
+// Whether the statement is undecided, and the base below extends the partial with it failing.
+fn can_fail<B: Base>(base: &B, partial: &[u8], k: usize) -> bool
+    requires { Partial (B.wide base.now) partial.now }
+    ensures { MatchBool result ((k < length partial.now) × CanFail (B.outcome base.now) partial.now k) ((k < length partial.now) × CanFail (B.outcome base.now) partial.now k → ⊥) }
 {
-    if partial[k] != 0 {
+    if partial.get(k) != Some(&UNDECIDED) {
         return false;
     }
+    let mut trial = [UNDECIDED; WIDTH_MAX];
+    let trial = &mut trial[..partial.len()];
     trial.copy_from_slice(partial);
-    trial[k] = 2;
-    match base.extend(trial) {
-        Ok(outcome) => match outcome {
-            Outcome::Fits => true,
-            Outcome::Clash => false,
-        },
-        Err(_) => false,
-    }
+    trial[k] = FAILS;
+    matches!(base.extend(trial), Ok(Outcome::Fits))
+}
+
+// Whether a marked statement can still fail.
+fn some_can_fail<B: Base>(base: &B, group: &[u8], partial: &[u8]) -> bool
+    requires { Partial (B.wide base.now) partial.now }
+    ensures { MatchBool result (SomeCanFail (B.outcome base.now) group.now partial.now) (SomeCanFail (B.outcome base.now) group.now partial.now → ⊥) }
+{
+    group
+        .iter()
+        .enumerate()
+        .any(|(k, &mark)| mark == MARKED && can_fail(base, partial, k))
 }
 
 // Whether the group is met, or a marked statement can still fail.
-fn may_meet<B: Base>(base: &B, group: &[u8], partial: &[u8], trial: &mut [u8]) -> bool
-    requires partial { Partial (B.wide base.now) partial.now }
-    requires trial { length trial.old ≡ B.wide base.now }
+fn may_meet<B: Base>(base: &B, group: &[u8], partial: &[u8]) -> bool
+    requires { Partial (B.wide base.now) partial.now }
     ensures { MatchBool result (MayMeet (B.outcome base.now) group.now partial.now) (MayMeet (B.outcome base.now) group.now partial.now → ⊥) }
 {
-    if !marks_any(group) {
-        return true;
-    }
-    if fails_marked(group, partial) {
-        return true;
-    }
-    for k in 0..partial.len() {
-        if byte_at(group, k) == 1 && can_fail(base, partial, trial, k) {
-            return true;
-        }
-    }
-    false
-}
-
-// Extends a copy of the partial, and says whether the group can still be met there.
-fn look_ahead<B: Base>(
-    base: &B,
-    group: &[u8],
-    partial: &[u8],
-    own: &mut [u8],
-    trial: &mut [u8],
-) -> Outcome
-    requires partial { Partial (B.wide base.now) partial.now }
-    requires own { length own.old ≡ B.wide base.now }
-    requires trial { length trial.old ≡ B.wide base.now }
-    ensures { Ahead (B.outcome base.now) group.now partial.now result own.new }
-{
-    own.copy_from_slice(partial);
-    match base.extend(own) {
-        Ok(outcome) => match outcome {
-            Outcome::Fits => {
-                if may_meet(base, group, own, trial) {
-                    Outcome::Fits
-                } else {
-                    Outcome::Clash
-                }
-            }
-            Outcome::Clash => Outcome::Clash,
-        },
-        Err(_) => Outcome::Clash,
-    }
-}
-
-// Extends by way of lent memory; a clash leaves the partial.
-fn extend_meeting<B: Base>(
-    base: &B,
-    group: &[u8],
-    partial: &mut [u8],
-    own: &mut [u8],
-    trial: &mut [u8],
-) -> Outcome
-    requires partial { Partial (B.wide base.now) partial.old }
-    requires own { length own.old ≡ B.wide base.now }
-    requires trial { length trial.old ≡ B.wide base.now }
-    ensures { Narrows (B.outcome base.now) group.now partial.old result partial.new }
-{
-    match look_ahead(base, group, partial, own, trial) {
-        Outcome::Fits => {
-            partial.copy_from_slice(own);
-            Outcome::Fits
-        }
-        Outcome::Clash => Outcome::Clash,
-    }
+    !marks_any(group) || fails_marked(group, partial) || some_can_fail(base, group, partial)
 }
 
 impl<'a, 'b, B: Base> Base for Meeting<'a, 'b, B> {
@@ -131,28 +73,23 @@ impl<'a, 'b, B: Base> Base for Meeting<'a, 'b, B> {
         self.base.width()
     }
 
+    // Extends a copy, so that a clash leaves the partial.
     fn extend(&self, partial: &mut [u8]) -> Result<Outcome, Refusal> {
-        let w = self.base.width();
-        match refusal_of(w, partial) {
-            Some(refusal) => Err(refusal),
-            None => {
-                let mut own = [0u8; 512];
-                let mut trial = [0u8; 512];
-                Ok(extend_meeting(
-                    self.base,
-                    self.group,
-                    partial,
-                    &mut own[0..w],
-                    &mut trial[0..w],
-                ))
+        check(self.base.width(), partial)?;
+        let mut extended = [UNDECIDED; WIDTH_MAX];
+        let extended = &mut extended[..partial.len()];
+        extended.copy_from_slice(partial);
+        match self.base.extend(extended)? {
+            Outcome::Fits if may_meet(self.base, self.group, extended) => {
+                partial.copy_from_slice(extended);
+                Ok(Outcome::Fits)
             }
+            Outcome::Fits | Outcome::Clash => Ok(Outcome::Clash),
         }
     }
 }
 
 // A cut drops no plan that meets the group.
-pub fn cut_stands<B: Base>(base: &B, group: &[u8]) -> u8
+pub fn cut_stands<B: Base>(base: &B, group: &[u8])
     ensures { CutStands (B.wide base.now) (B.plan base.now) (B.outcome base.now) group.now }
-{
-    0
-}
+{}

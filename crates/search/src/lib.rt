@@ -3,12 +3,11 @@
 
 ghost use Rattle.std.specs.Prelude.{◌≡◌};
 ghost use Rattle.source.specs.Plans.{Of};
-ghost use Rattle.source.specs.Asked.{Asked};
 ghost use Rattle.search.specs.Asking.{FirstAsked, OnlyFirst};
 
 use base::Base;
 use narrow::Meeting;
-use source::bytes::refusal;
+use source::bytes::check;
 use source::{Answer, Refusal, Source};
 use walk::first_agreeing;
 
@@ -41,7 +40,6 @@ impl<B: Base> Source for Search<B> {
     // The plan given is the first that serves.
     #[tactic(auto, using(crate::proofs::Asking::first_asked))]
     fn question(&self, pins: &[u8], group: &[u8], place: &mut [u8]) -> Result<Answer, Refusal>
-        ensures asked { Asked (B.Base.wide self.now.base) (Of (B.Base.wide self.now.base) (B.Base.plan self.now.base)) pins.now group.now place.old result place.new }
         ensures first { FirstAsked (B.Base.wide self.now.base) (Of (B.Base.wide self.now.base) (B.Base.plan self.now.base)) pins.now group.now place.old result place.new }
     {
         self.first_plan(pins, group, place)
@@ -58,11 +56,6 @@ fn first_of<B: Base>(
 ) -> Result<Answer, Refusal>
     ensures { FirstAsked (B.wide base.now) (Of (B.wide base.now) (B.plan base.now)) pins.now group.now place.old result place.new }
 {
-    match refusal(base.width(), pins, group, place) {
-        Some(cause) => Err(cause),
-        None => {
-            let met = Meeting::new(base, group);
-            first_agreeing(&met, pins, place)
-        }
-    }
+    check(base.width(), pins, group, place)?;
+    first_agreeing(&Meeting::new(base, group), pins, place)
 }

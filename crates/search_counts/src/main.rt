@@ -2,13 +2,13 @@
 #![tactic(auto)]
 
 use base::{Base, Outcome};
-use clauses::ClauseRefusal;
 use clauses::list::ClauseList;
 use clauses::run::Run;
 use closing::Closing;
 use search::Search;
-use source::bytes::{byte_at, marks_any};
-use source::{Answer, Refusal};
+use source::bytes::{FAILS, HOLDS, MARKED, UNDECIDED, marks_any};
+use source::{Answer, Refusal, WIDTH_MAX};
+use std::alloc::{AllocError, Global};
 use std::cell::Cell;
 use std::io;
 use std::time::Instant;
@@ -39,181 +39,109 @@ impl<'a, 'c, B: Base> Base for Counting<'a, 'c, B> {
     }
 }
 
-// What a settling came to.
-#[derive(Clone, Copy)]
+// What a settling came to; all zero if it failed.
+#[derive(Clone, Copy, Default)]
 struct Settled {
-    questions: u32,
+    questions: usize,
     certain: usize,
     extensions: u64,
 }
 
 // Opens what holds in the plan.
 fn open_holding(plan: &[u8], open: &mut [u8]) {
-    for i in 0..open.len() {
-        open[i] = if byte_at(plan, i) == 1 { 1 } else { 0 };
+    for (mark, &byte) in open.iter_mut().zip(plan) {
+        *mark = if byte == HOLDS { MARKED } else { 0 };
     }
 }
 
 // Closes what fails in the plan.
 fn close_failing(plan: &[u8], open: &mut [u8]) {
-    for i in 0..open.len() {
-        if byte_at(plan, i) == 2 {
-            open[i] = 0;
+    for (mark, &byte) in open.iter_mut().zip(plan) {
+        if byte == FAILS {
+            *mark = 0;
         }
     }
-}
-
-// How many are marked.
-fn marked(open: &[u8]) -> usize {
-    let mut n = 0usize;
-    for b in open {
-        if *b == 1 {
-            n = n.wrapping_add(1);
-        }
-    }
-    n
 }
 
 // Asks with all that is open until nothing is, or all of it is certain; the number of questions.
-fn settle<B: Base>(search: &Search<B>, none: &[u8], open: &mut [u8], place: &mut [u8]) -> u32 {
-    let mut questions = 1u32;
-    match search.first_plan(none, none, place) {
-        Ok(_) => open_holding(place, open),
-        Err(_) => return 0,
-    }
-    for _ in 0..512 {
-        if !marks_any(open) {
-            return questions;
-        }
-        questions = questions.wrapping_add(1);
-        match search.first_plan(none, open, place) {
-            Ok(answer) => match answer {
-                Answer::Plan => close_failing(place, open),
-                Answer::Nothing => return questions,
-            },
-            Err(_) => return 0,
-        }
-    }
-    questions
-}
-
-// The questions, and how many are certain in the end.
-fn settle_counted<B: Base>(
+fn settle<B: Base>(
     search: &Search<B>,
     none: &[u8],
     open: &mut [u8],
     place: &mut [u8],
-) -> (u32, usize) {
-    let questions = settle(search, none, open, place);
-    (questions, marked(open))
+) -> Result<usize, Refusal> {
+    search.first_plan(none, none, place)?;
+    open_holding(place, open);
+    // Each question but the last closes a statement.
+    for asked in 1..=WIDTH_MAX {
+        if !marks_any(open) {
+            return Ok(asked);
+        }
+        if search.first_plan(none, open, place)? == Answer::Nothing {
+            return Ok(asked + 1);
+        }
+        close_failing(place, open);
+    }
+    Ok(WIDTH_MAX + 1)
 }
 
 // Settles a base of so many statements.
-fn settle_base<B: Base>(base: &B, w: usize) -> Settled {
-    if w > 512 {
-        return Settled {
-            questions: 0,
-            certain: 0,
-            extensions: 0,
-        };
-    }
-    let none = [0u8; 512];
-    let mut open = [0u8; 512];
-    let mut place = [0u8; 512];
-    let count = Cell::new(0u64);
+fn settle_base<B: Base>(base: &B, width: usize, alloc: Global) -> Option<Settled> {
+    let none = vec![in alloc; UNDECIDED; width].ok()?;
+    let mut open = vec![in alloc; 0; width].ok()?;
+    let mut place = vec![in alloc; UNDECIDED; width].ok()?;
+    let count = Cell::new(0);
     let search = Search {
         base: Counting {
             base,
             count: &count,
         },
     };
-    let (questions, certain) = settle_counted(
-        &search,
-        &none[0..w],
-        &mut open[0..w],
-        &mut place[0..w],
-    );
-    Settled {
+    let questions = settle(&search, &none, &mut open, &mut place).ok()?;
+    Some(Settled {
         questions,
-        certain,
+        certain: open.iter().filter(|&&mark| mark == MARKED).count(),
         extensions: count.get(),
-    }
+    })
 }
 
-fn put(entries: &mut [u16], at: usize, e: u16) {
-    if at < entries.len() {
-        entries[at] = e;
+// The entries of the clauses of so many independent pairs: of each pair one holds, they exclude each other, and either
+// supports a third statement.
+fn entries_of(pairs: u8, alloc: Global) -> Result<Vec<u16>, AllocError> {
+    let mut entries = Vec::new(alloc);
+    for i in 0..pairs {
+        let a = 6 * u16::from(i);
+        let b = a + 2;
+        let c = a + 4;
+        entries.extend_from_slice(&[a, b, a + 1, b + 1, a + 1, c, b + 1, c])?;
     }
+    Ok(entries)
 }
 
-fn put_run(runs: &mut [Run], c: usize, first: usize, count: usize) {
-    if c < runs.len() && first <= 8192 && count <= 8192 {
-        runs[c] = Run {
-            first: first as u16,
-            count: count as u16,
-        };
-    }
+// Those clauses, of two entries each.
+fn runs_of(pairs: u8, alloc: Global) -> Result<Vec<Run>, AllocError> {
+    (0..4 * u16::from(pairs))
+        .map(|clause| Run {
+            first: 2 * clause,
+            count: 2,
+        })
+        .collect(alloc)
 }
 
-// A clause of two entries, at the place of its number.
-fn either(runs: &mut [Run], entries: &mut [u16], c: usize, a: u16, b: u16) {
-    if c < 2048 {
-        put_run(runs, c, 2 * c, 2);
-        put(entries, 2 * c, a);
-        put(entries, 2 * c + 1, b);
-    }
-}
-
-// One pair that excludes each other, one of which holds, and a third that either supports.
-fn pair(runs: &mut [Run], entries: &mut [u16], i: usize) {
-    if i < 170 {
-        let a = (6 * i) as u16;
-        either(runs, entries, 4 * i, a, a + 2);
-        either(runs, entries, 4 * i + 1, a + 1, a + 3);
-        either(runs, entries, 4 * i + 2, a + 1, a + 4);
-        either(runs, entries, 4 * i + 3, a + 3, a + 4);
-    }
-}
-
-fn lent(w: usize, runs: &[Run], entries: &[u16]) -> Result<Settled, ClauseRefusal> {
+// Settles so many independent pairs.
+fn settle_pairs(pairs: u8, alloc: Global) -> Option<Settled> {
+    let runs = runs_of(pairs, alloc).ok()?;
+    let entries = entries_of(pairs, alloc).ok()?;
+    let width = 3 * usize::from(pairs);
     let mut list = ClauseList::empty();
-    list.lend(w, runs, entries)?;
-    let base = Closing { rules: list };
-    Ok(settle_base(&base, w))
-}
-
-// So many independent pairs.
-fn pairs(n: usize) -> Settled {
-    let mut runs = [Run { first: 0, count: 0 }; 2048];
-    let mut entries = [0u16; 8192];
-    lay_pairs(&mut runs, &mut entries, n);
-    if n > 170 {
-        return Settled {
-            questions: 0,
-            certain: 0,
-            extensions: 0,
-        };
-    }
-    match lent(3 * n, &runs[0..4 * n], &entries[0..8 * n]) {
-        Ok(s) => s,
-        Err(_) => Settled {
-            questions: 0,
-            certain: 0,
-            extensions: 0,
-        },
-    }
-}
-
-fn lay_pairs(runs: &mut [Run], entries: &mut [u16], n: usize) {
-    for i in 0..n {
-        pair(runs, entries, i);
-    }
+    list.lend(width, &runs, &entries).ok()?;
+    settle_base(&Closing { rules: list }, width, alloc)
 }
 
 fn main(rt: HostRuntime) -> io::Result<()> {
-    for n in [20usize, 40, 60, 120] {
+    for n in [20, 40, 60, 120] {
         let start = Instant::now(&rt)?;
-        let s = pairs(n);
+        let s = settle_pairs(n, rt.alloc()).unwrap_or_default();
         let micros = start.elapsed(&rt)?.as_micros();
         println!(rt;
             "pairs {n} questions {} certain {} extensions {}",

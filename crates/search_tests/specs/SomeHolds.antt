@@ -1,12 +1,12 @@
 -- The plans in which some statement holds, found out only when all is decided.
 use Rattle.std.specs.Prelude.{◌≡◌, ℕ, Bool, true, false, cond, ◌&&◌, List, [], ◌∷◌, ◌==◌}
+use Rattle.std.specs.List.{list_all}
 use Rattle.source.specs.Plans.{Whole}
 use Rattle.base.specs.Laws.{Out, clash, fits}
 
 -- every statement fails
 abbrev pub all_fail : List ℕ → Bool
-all_fail [] = true
-all_fail (b ∷ bs) = b == 2 && all_fail bs
+all_fail bs = list_all (λ b. b == 2) bs
 
 -- a plan: whole, and some statement holds
 abbrev pub HoldsSomewhere : ℕ → List ℕ → Type 0

@@ -1,146 +1,117 @@
 // The search over the clause base: all small clause lists.
+ghost use Rattle.std.specs.Prelude.{◌≤◌};
+
 use crate::comparing::same_for_all;
-use crate::enumerator::{Rows, next_digits};
-use clauses::ClauseRefusal;
+use crate::enumerator::{Rows, string, strings};
 use clauses::list::ClauseList;
 use clauses::run::Run;
 use closing::Closing;
 use search::Search;
-use source::bytes::byte_at;
+use source::bytes::{FAILS, HOLDS, byte_at};
 
-// Clauses as marks: the clause c has the entry e if the mark at codes * c + e is 1.
+// The entries that a clause over at most four statements can have.
+const CODES: u16 = 8;
+
+// Clauses as sets of entries: a clause has the entry e if its bit e is 1.
 #[derive(Drop)]
-struct Marked<'a> {
-    codes: usize,
-    clauses: usize,
-    marks: &'a [u8],
+struct Sets<'a> {
+    clauses: &'a [u8],
 }
 
-impl<'a> Rows for Marked<'a> {
+fn has(clause: u8, e: u16) -> bool {
+    e < CODES && (clause >> e) & 1 == 1
+}
+
+fn holds(row: &[u8], e: u16) -> bool {
+    let byte = if e % 2 == 0 { HOLDS } else { FAILS };
+    byte_at(row, usize::from(e / 2)) == byte
+}
+
+impl<'a> Rows for Sets<'a> {
     fn is_plan(&self, row: &[u8]) -> bool {
-        let mut at = 0usize;
-        for _ in 0..self.clauses {
-            let mut holds = false;
-            for e in 0..self.codes {
-                if byte_at(self.marks, at) == 1 && byte_at(row, e / 2) == (1 + e % 2) as u8 {
-                    holds = true;
-                }
-                at = at.wrapping_add(1);
-            }
-            if !holds {
-                return false;
-            }
-        }
-        true
+        self.clauses.iter().all(|&clause| (0..CODES).any(|e| has(clause, e) && holds(row, e)))
     }
 }
 
-// Writes the marked clauses as runs of entries; the number of entries.
-fn lay(list: &Marked<'_>, runs: &mut [Run], entries: &mut [u16]) -> usize {
-    let mut n = 0usize;
-    let mut at = 0usize;
-    for c in 0..list.clauses {
-        let first = n;
-        for e in 0..list.codes {
-            if byte_at(list.marks, at) == 1 && n < entries.len() && e < 16 {
-                entries[n] = e as u16;
-                n = n.wrapping_add(1);
+// Writes the clauses as runs of entries; the entries written, if there is room for them.
+fn lay<'a>(clauses: &[u8], runs: &mut [Run], entries: &'a mut [u16]) -> Option<&'a [u16]> {
+    let mut n = 0u16;
+    for (run, &clause) in runs.iter_mut().zip(clauses) {
+        run.first = n;
+        for e in 0..CODES {
+            if has(clause, e) {
+                *entries.get_mut(usize::from(n))? = e;
+                n = n.saturating_add(1);
             }
-            at = at.wrapping_add(1);
         }
-        if c < runs.len() && first <= n && n <= 16 {
-            runs[c] = Run {
-                first: first as u16,
-                count: (n - first) as u16,
-            };
-        }
+        run.count = n.saturating_sub(run.first);
     }
-    n
+    entries.get(..usize::from(n))
 }
 
-// The search over lent clauses answers as the enumerator does over the same as marks, for all pins and groups.
-fn same_for_clauses(
-    list: &Marked<'_>,
-    w: usize,
-    runs: &[Run],
-    entries: &[u16],
-) -> Result<bool, ClauseRefusal> {
-    let mut clauses = ClauseList::empty();
-    clauses.lend(w, runs, entries)?;
-    let search = Search {
-        base: Closing { rules: clauses },
+// The search over lent clauses over N statements answers as the enumerator does over the same as sets, for all pins
+// and groups.
+fn same_for_list<const N: usize, const C: usize>(clauses: &[u8; C]) -> bool
+    requires statements { N ≤ 8 }
+    requires clauses { C ≤ 8 }
+{
+    let mut runs = [Run { first: 0, count: 0 }; C];
+    let mut entries = [0u16; 32];
+    let Some(entries) = lay(clauses, &mut runs, &mut entries) else {
+        return false;
     };
-    Ok(same_for_all(&search, list, w))
-}
-
-// The same of one list as marks.
-fn same_for_list(list: &Marked<'_>, w: usize) -> bool {
-    let mut runs = [Run { first: 0, count: 0 }; 4];
-    let mut entries = [0u16; 16];
-    let n = lay(list, &mut runs, &mut entries);
-    if n > 16 || list.clauses > 4 {
+    let mut list = ClauseList::empty();
+    if list.lend(N, &runs, entries).is_err() {
         return false;
     }
-    match same_for_clauses(list, w, &runs[0..list.clauses], &entries[0..n]) {
-        Ok(same) => same,
-        Err(_) => false,
-    }
+    let search = Search {
+        base: Closing { rules: list },
+    };
+    same_for_all::<N, _, _>(&search, &Sets { clauses })
 }
 
-// All lists of so many clauses, from that of empty clauses on.
-fn same_for_marks(w: usize, codes: usize, clauses: usize, marks: &mut [u8]) -> bool {
-    for _ in 0..65536 {
-        if !same_for_list(
-            &Marked {
-                codes,
-                clauses,
-                marks,
-            },
-            w,
-        ) {
+// All lists of C clauses over N statements, from that of empty clauses on: each statement is not in a clause, is in it
+// as holding, as failing, or as both.
+fn same_for_lists<const N: usize, const C: usize>() -> bool
+    requires statements { N ≤ 8 }
+    requires clauses { C ≤ 8 }
+{
+    let Ok(full) = u8::try_from(strings(N, 3).saturating_sub(1)) else {
+        return false;
+    };
+    for number in 0..strings(C, full) {
+        if !same_for_list::<N, C>(&string(number, full)) {
             return false;
         }
-        if !next_digits(marks, 1) {
-            return true;
-        }
     }
-    false
-}
-
-// All lists of so many clauses over so many statements.
-fn same_for_lists(w: usize, clauses: usize) -> bool {
-    if w > 4 || clauses > 4 || 2 * w * clauses > 16 {
-        return false;
-    }
-    let mut marks = [0u8; 16];
-    same_for_marks(w, 2 * w, clauses, &mut marks[0..2 * w * clauses])
+    true
 }
 
 #[test]
 fn no_statements(rt: HostRuntime) {
-    assert!(rt; same_for_lists(0, 0));
-    assert!(rt; same_for_lists(0, 2));
+    assert!(rt; same_for_lists::<0, 0>());
+    assert!(rt; same_for_lists::<0, 2>());
 }
 
 #[test]
 fn one_statement(rt: HostRuntime) {
-    assert!(rt; same_for_lists(1, 0));
-    assert!(rt; same_for_lists(1, 4));
+    assert!(rt; same_for_lists::<1, 0>());
+    assert!(rt; same_for_lists::<1, 4>());
 }
 
 #[test]
 fn two_statements(rt: HostRuntime) {
-    assert!(rt; same_for_lists(2, 1));
-    assert!(rt; same_for_lists(2, 3));
+    assert!(rt; same_for_lists::<2, 1>());
+    assert!(rt; same_for_lists::<2, 3>());
 }
 
 #[test]
 fn three_statements(rt: HostRuntime) {
-    assert!(rt; same_for_lists(3, 1));
-    assert!(rt; same_for_lists(3, 2));
+    assert!(rt; same_for_lists::<3, 1>());
+    assert!(rt; same_for_lists::<3, 2>());
 }
 
 #[test]
 fn four_statements(rt: HostRuntime) {
-    assert!(rt; same_for_lists(4, 1));
+    assert!(rt; same_for_lists::<4, 1>());
 }

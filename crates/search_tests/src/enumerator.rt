@@ -1,72 +1,66 @@
 // The first serving row by running through all rows: it knows nothing of bases, extending or cutting.
-use source::bytes::byte_at;
+ghost use Rattle.std.specs.Prelude.{◌≤◌};
+
+use source::bytes::{FAILS, HOLDS, MARKED, UNDECIDED};
 
 // Tells the plans among whole rows.
 pub trait Rows {
     fn is_plan(&self, row: &[u8]) -> bool;
 }
 
-// The next row in the order of plans, from the one where all fail on; false after the last.
-fn next_row(row: &mut [u8]) -> bool {
-    for i in (0..row.len()).rev() {
-        if row[i] == 2 {
-            row[i] = 1;
-            return true;
-        }
-        row[i] = 2;
-    }
-    false
+// How many strings of so many digits there are, with digits up to the top.
+pub fn strings(length: usize, top: u8) -> usize {
+    (0..length).fold(1, |n: usize, _| n.saturating_mul(usize::from(top) + 1))
 }
 
-// The next string of digits up to the top; false after the last.
-pub fn next_digits(digits: &mut [u8], top: u8) -> bool {
-    for i in 0..digits.len() {
-        if digits[i] < top {
-            digits[i] += 1;
-            return true;
-        }
-        digits[i] = 0;
+// The string with the number, as that number's digits, the lowest first.
+pub fn string<const N: usize>(number: usize, top: u8) -> [u8; N]
+    requires { N ≤ 8 }
+{
+    let base = usize::from(top) + 1;
+    let mut rest = number;
+    let mut digits = [0; N];
+    for digit in digits.iter_mut() {
+        *digit = (rest % base) as u8;
+        rest /= base;
     }
-    false
+    digits
+}
+
+// The row with the number, in the order of plans, from the one where all fail on.
+fn row<const N: usize>(number: usize) -> [u8; N]
+    requires { N ≤ 8 }
+{
+    let mut row = string(number, 1);
+    row.reverse();
+    for byte in row.iter_mut() {
+        *byte = if *byte == 0 { FAILS } else { HOLDS };
+    }
+    row
 }
 
 // Whether a row agrees with the pins and fails at a marked statement, if there is one.
 fn is_wanted(pins: &[u8], group: &[u8], row: &[u8]) -> bool {
-    let mut marked = false;
-    let mut fails = false;
-    for i in 0..row.len() {
-        let pin = byte_at(pins, i);
-        if pin != 0 && pin != row[i] {
-            return false;
-        }
-        if byte_at(group, i) == 1 {
-            marked = true;
-            if row[i] == 2 {
-                fails = true;
-            }
-        }
-    }
-    fails || !marked
+    let agrees = pins
+        .iter()
+        .zip(row)
+        .all(|(&pin, &byte)| pin == UNDECIDED || pin == byte);
+    let fails = group
+        .iter()
+        .zip(row)
+        .any(|(&mark, &byte)| mark == MARKED && byte == FAILS);
+    agrees && (fails || !group.contains(&MARKED))
 }
 
-// Writes the first row that is wanted; false, and nothing written, if there is none. The row lent starts as all fails.
-pub fn first_row<T: Rows>(
-    rows: &T,
-    pins: &[u8],
-    group: &[u8],
-    row: &mut [u8],
-    out: &mut [u8],
-) -> bool {
-    for _ in 0..256 {
-        if rows.is_plan(row) && is_wanted(pins, group, row) {
-            for i in 0..out.len() {
-                out[i] = byte_at(row, i);
-            }
-            return true;
-        }
-        if !next_row(row) {
-            return false;
+// The first row that is a plan and wanted.
+pub fn first_row<const N: usize, T: Rows>(rows: &T, pins: &[u8], group: &[u8]) -> Option<[u8; N]>
+    requires { N ≤ 8 }
+{
+    for number in 0..strings(N, 1) {
+        let row = row::<N>(number);
+        if rows.is_plan(&row) && is_wanted(pins, group, &row) {
+            return Some(row);
         }
     }
-    false
+    None
 }

@@ -3,8 +3,9 @@ ghost use Rattle.std.specs.Prelude.{◌≡◌, ◌≤◌};
 ghost use Rattle.search_tests.specs.SomeHolds.{all_fail, HoldsSomewhere, some_outcome};
 ghost use Rattle.search_tests.specs.Laws.{some_lawful};
 
-use base::{Base, Outcome, refusal_of};
-use source::Refusal;
+use base::{Base, Outcome, check};
+use source::bytes::FAILS;
+use source::{Refusal, WIDTH_MAX};
 
 #[derive(Drop)]
 pub struct SomeHolds {
@@ -15,23 +16,17 @@ pub struct SomeHolds {
 impl SomeHolds {
     // So many statements, but 512 at most.
     pub fn over(width: usize) -> SomeHolds {
-        if width <= 512 {
-            SomeHolds { width }
-        } else {
-            SomeHolds { width: 512 }
+        SomeHolds {
+            width: width.min(WIDTH_MAX),
         }
     }
 }
 
+// Whether every statement fails.
 fn all_fail(bytes: &[u8]) -> bool
     ensures { result ≡ all_fail bytes.now }
 {
-    for b in bytes {
-        if *b != 2 {
-            return false;
-        }
-    }
-    true
+    bytes.iter().all(|&byte| byte == FAILS)
 }
 
 impl Base for SomeHolds {
@@ -48,15 +43,11 @@ impl Base for SomeHolds {
     }
 
     fn extend(&self, partial: &mut [u8]) -> Result<Outcome, Refusal> {
-        match refusal_of(self.width, partial) {
-            Some(refusal) => Err(refusal),
-            None => {
-                if all_fail(partial) {
-                    Ok(Outcome::Clash)
-                } else {
-                    Ok(Outcome::Fits)
-                }
-            }
+        check(self.width, partial)?;
+        if all_fail(partial) {
+            Ok(Outcome::Clash)
+        } else {
+            Ok(Outcome::Fits)
         }
     }
 }

@@ -1,8 +1,11 @@
 // The search over the small base.
+ghost use Rattle.std.specs.Prelude.{◌≤◌};
+
 use crate::comparing::same_for_all;
 use crate::enumerator::Rows;
 use crate::some_holds::SomeHolds;
 use search::Search;
+use source::bytes::{FAILS, HOLDS};
 use source::{Answer, Refusal, Source};
 
 #[derive(Drop)]
@@ -10,23 +13,27 @@ struct Somewhere;
 
 impl Rows for Somewhere {
     fn is_plan(&self, row: &[u8]) -> bool {
-        for b in row {
-            if *b == 1 {
-                return true;
-            }
-        }
-        false
+        row.contains(&HOLDS)
     }
+}
+
+fn same_over<const N: usize>() -> bool
+    requires { N ≤ 8 }
+{
+    let search = Search {
+        base: SomeHolds::over(N),
+    };
+    same_for_all::<N, _, _>(&search, &Somewhere)
 }
 
 #[test]
 fn first_plans_of_all_small_widths(rt: HostRuntime) {
-    for w in 0..6 {
-        let search = Search {
-            base: SomeHolds::over(w),
-        };
-        assert!(rt; same_for_all(&search, &Somewhere, w));
-    }
+    assert!(rt; same_over::<0>());
+    assert!(rt; same_over::<1>());
+    assert!(rt; same_over::<2>());
+    assert!(rt; same_over::<3>());
+    assert!(rt; same_over::<4>());
+    assert!(rt; same_over::<5>());
 }
 
 #[test]
@@ -37,12 +44,11 @@ fn the_deepest_walk(rt: HostRuntime) {
     let zeros = [0u8; 512];
     let mut place = [7u8; 512];
     assert_eq!(rt; search.width(), 512);
-    let r = search.question(&zeros, &zeros, &mut place);
-    assert!(rt; matches!(r, Ok(Answer::Plan)));
-    for i in 0..511 {
-        assert!(rt; place[i] == 2);
-    }
-    assert!(rt; place[511] == 1);
+    let answer = search.question(&zeros, &zeros, &mut place);
+    assert_eq!(rt; answer, Ok(Answer::Plan));
+    let mut deepest = [FAILS; 512];
+    deepest[511] = HOLDS;
+    assert_eq!(rt; place, deepest);
 }
 
 #[test]
@@ -52,10 +58,10 @@ fn refusals_in_order(rt: HostRuntime) {
     };
     let mut place = [7u8; 2];
     let short = search.first_plan(&[3], &[2, 0], &mut place);
-    assert!(rt; matches!(short, Err(Refusal::Length)));
+    assert_eq!(rt; short, Err(Refusal::Length));
     let value = search.first_plan(&[0, 3], &[2, 0], &mut place);
-    assert!(rt; matches!(value, Err(Refusal::Value)));
+    assert_eq!(rt; value, Err(Refusal::Value));
     let mark = search.first_plan(&[0, 2], &[2, 0], &mut place);
-    assert!(rt; matches!(mark, Err(Refusal::Mark)));
-    assert!(rt; place[0] == 7 && place[1] == 7);
+    assert_eq!(rt; mark, Err(Refusal::Mark));
+    assert_eq!(rt; place, [7, 7]);
 }

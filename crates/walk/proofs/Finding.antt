@@ -1,33 +1,36 @@
 -- From the tree's answer to that of a walk.
-use Rattle.std.proofs.Common.{◌≡◌, ℕ, suc, Bool, true, false, List, length, sym, ap, ◌∙◌, subst, inr, arith}
+use Rattle.std.proofs.Common.{◌≡◌, ◌≢◌, ℕ, suc, ◌≤◌, List, length, get_or, replicate, None, Option, Ok, sym, refl, ap, ◌∙◌, subst, arith}
+use Rattle.std.proofs.lemmas.List.{get_or-replicate, length-replicate}
 use Rattle.source.specs.declared.Answer.{Answer}
+use Rattle.source.specs.declared.Answer.TheVariants.{Plan, Nothing}
 use Rattle.source.specs.Plans.{Partial, First}
 use Rattle.base.specs.Laws.{Out, Lawful}
 use Rattle.first.specs.Tree.{tree, Below, Finds}
 use Rattle.first.proofs.Zeros.{unset_long}
 use Rattle.first.proofs.Firsts.{first_found}
-use Rattle.trail.specs.Walks.{keep_m, Walk}
-use Rattle.trail.proofs.States.{keep_m_out, keep_m_long}
-use Rattle.walk.specs.Turning.{Ran}
-use Rattle.walk.specs.Finding.{Delivered, FirstOf}
+use Rattle.trail.specs.Walks.{Walk, Marked, mark_of}
+use Rattle.walk.specs.declared.memory.Trail.{Trail}
+use Rattle.walk.specs.Turning.{Walks, Ran}
+use Rattle.walk.specs.Finding.{FirstOf}
 
 -- a walk starts with nothing marked and no choice that waits
-pub start_walk : (w : ℕ) (ms cs bs pins : List ℕ) → length ms ≡ w → length cs ≡ w → bs ≡ pins → Partial w pins → (ms' : List ℕ) → ms' ≡ keep_m 0 ms → Walk w 0 ms' cs bs
-start_walk w ms cs bs pins lm lc e p ms' em = subst (λ y. Walk w 0 y cs bs) (sym em) (subst (Walk w 0 (keep_m 0 ms) cs) (sym e) (record {
-  marks_long = keep_m_long 0 ms ∙ lm;
-  choices_long = lc;
-  marked = λ k h. inr (keep_m_out 0 ms k (omega arith) (omega arith));
+pub start_walk : (w : ℕ) (t : Trail) (q : List ℕ) → w ≤ 512 → Partial w q → t.marks ≡ replicate 512 None → length t.choices ≡ 512 → t.level ≡ 0 → Walks w t q
+start_walk w t q hw p em lc ed = subst (λ d. Walk w d t.marks t.choices q) (sym ed) (record {
+  marks_long = omega (arith, ap length em, length-replicate {A = Option ℕ} 512 None);
+  choices_long = omega arith;
+  marked = λ k h. subst (λ m. Marked 0 m (get_or q k 0)) (sym (ap (λ ms. mark_of ms k) em ∙ get_or-replicate 512 k None None (omega arith))) tt;
   chosen = λ i h. let z : ⊥ = omega arith in absurd z;
-  low = (p, omega (arith, unset_long pins, p.0), tt);
-}))
+  low = (p, omega (arith, unset_long q, p.0), tt);
+})
 
--- what a run found, delivered, is the first plan below the pins
-module _ (w : ℕ) (plan : List ℕ → Type 0) (o : List ℕ → Out) (laws : Lawful w plan o) (pins : List ℕ) (p : Partial w pins) (q : List ℕ) (copied : q ≡ pins) (bs before after : List ℕ) where
-  pub first_delivered : (found : Bool) (answer : Answer) → Ran w o q bs found → Delivered found bs before answer after → FirstOf (Below plan pins) before answer after
-  first_delivered true answer ran d =
-      subst (λ a. FirstOf (Below plan pins) before a after) (sym d.0)
-      (subst (First (Below plan pins)) (sym d.1)
-      (subst (Finds (Below plan pins)) (ap (tree o (suc w)) (sym copied) ∙ ran) (first_found w plan o laws pins p)))
-  first_delivered false answer ran d =
-      let none : (x : List ℕ) → Below plan pins x → ⊥ = subst (Finds (Below plan pins)) (ap (tree o (suc w)) (sym copied) ∙ ran) (first_found w plan o laws pins p) in
-      subst (λ a. FirstOf (Below plan pins) before a after) (sym d.0) (none, d.1)
+-- what a run found is the first plan below the pins, delivered if it is one
+module _ (w : ℕ) (plan : List ℕ → Type 0) (o : List ℕ → Out) (laws : Lawful w plan o) (pins : List ℕ) (p : Partial w pins) (q : List ℕ) (copied : q ≡ pins) (bs before : List ℕ) where
+  pub first_delivered : (a : Answer) (after : List ℕ) → a ≡ Plan → Ran w o q bs (Ok a) → after ≡ bs → FirstOf (Below plan pins) before a after
+  first_delivered Plan after e ran d =
+      subst (First (Below plan pins)) (sym d)
+      (subst (Finds (Below plan pins)) (ap (tree o (suc w)) (sym copied) ∙ ran) (first_found w plan o laws pins p))
+  first_delivered Nothing after e ran d = let z : ⊥ = cc in absurd z
+
+  pub none_delivered : (a : Answer) → a ≢ Plan → Ran w o q bs (Ok a) → FirstOf (Below plan pins) before a before
+  none_delivered Plan n ran = absurd (n refl)
+  none_delivered Nothing n ran = (subst (Finds (Below plan pins)) (ap (tree o (suc w)) (sym copied) ∙ ran) (first_found w plan o laws pins p), refl)

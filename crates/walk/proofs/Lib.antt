@@ -1,5 +1,5 @@
 -- Lemmas of the walk.
 pub mod Loops
-pub mod Looking
 pub mod Stepping
+pub mod Looking
 pub mod Finding

@@ -2,8 +2,7 @@
 --   Unfit          the cause of each refusal
 --   FirstOf        the answer is the first of a set of plans, or nothing exactly when it has none
 --   FirstAgreeing  the whole contract
---   Delivered      what a finished run leaves in the place
-use Rattle.std.specs.Prelude.{◌≡◌, ℕ, Bool, true, false, List, length, Ok, Err, Result}
+use Rattle.std.specs.Prelude.{◌≡◌, ℕ, List, length, Ok, Err, Result}
 use Rattle.source.specs.declared.Refusal.{Refusal}
 use Rattle.source.specs.declared.Refusal.TheVariants.{Length, Value, Mark, Wide}
 use Rattle.source.specs.declared.Answer.{Answer}
@@ -31,7 +30,3 @@ FirstOf P before Nothing after = ((p : List ℕ) → P p → ⊥) × (after ≡ 
 abbrev pub FirstAgreeing : ℕ → (List ℕ → Type 0) → List ℕ → List ℕ → Result Answer Refusal → List ℕ → Type 0
 FirstAgreeing w plan pins before (Err e) after = Unfit w pins before e × (after ≡ before)
 FirstAgreeing w plan pins before (Ok a) after = Fit w pins before × FirstOf (Below plan pins) before a after
-
--- the plan found is in the place, or nothing was found and the place is as before
-abbrev pub Delivered : Bool → List ℕ → List ℕ → Answer → List ℕ → Type 0
-Delivered found bytes before answer after = elim found [ true ↦ (answer ≡ Plan) × (after ≡ bytes) | false ↦ (answer ≡ Nothing) × (after ≡ before) ]

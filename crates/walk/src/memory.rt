@@ -1,108 +1,96 @@
-// The memory of a walk: marks on what was decided when, and the choices that wait for "holds".
-ghost use Rattle.std.specs.Prelude.{◌≡◌, ℕ, suc, ◌-◌, ◌<◌, ◌≤◌, length, if◌then◌else◌, nat_lt, slice_index, slice_set};
-ghost use Rattle.trail.specs.Walks.{keep_b, keep_m, note_one, note_m};
-ghost use Rattle.walk.specs.Turning.{Lowest};
+// The memory of a walk: what was decided when, and the choices that wait for "holds".
+ghost use Rattle.std.specs.Prelude.{◌≡◌, ◌≤◌, None, length, replicate};
+ghost use Rattle.trail.specs.Walks.{stands, keep_b, keep_m, note_m};
 
-// The mark of a statement that has none.
-const NONE: u16 = 65535;
+use source::bytes::{FAILS, HOLDS, UNDECIDED};
+use source::{Answer, WIDTH_MAX};
+use std::ops::ControlFlow;
 
-const HOLDS: u8 = 1;
+// What a walk keeps beside its partial.
+#[derive(Drop)]
+pub struct Trail {
+    // how many choices waited when a statement was decided; an undecided one has no mark
+    pub marks: [Option<u16>; WIDTH_MAX],
+    // the statements that were chosen to fail, the latest last
+    // Stays: the library has no heap, so the stack is an array with its height beside it.
+    pub choices: [u16; WIDTH_MAX],
+    pub level: u16,
+}
 
-const FAILS: u8 = 2;
+impl Trail {
+    ghost use Rattle.walk.specs.Turning.{Lowest, Walks, Forks, Backs};
 
-// The lowest undecided statement, or the width.
-pub fn first_open(partial: &[u8]) -> usize
-    ensures { Lowest partial.now result }
-{
-    for i in 0..partial.len() {
-        if partial[i] == 0 {
-            return i;
+    // Nothing is marked, and no choice waits.
+    pub fn new() -> Trail
+        ensures marks { result.marks ≡ replicate 512 None }
+        ensures level { result.level ≡ 0 }
+    {
+        Trail {
+            marks: [None; WIDTH_MAX],
+            choices: [0; WIDTH_MAX],
+            level: 0,
         }
     }
-    partial.len()
-}
 
-// A byte after a step back to below the level.
-fn kept(byte: u8, mark: u16, level: u16) -> u8
-    ensures { result ≡ (if nat_lt mark level then byte else 0) }
-{
-    if mark < level { byte } else { 0 }
-}
-
-// A mark after a step back to below the level.
-fn kept_mark(mark: u16, level: u16) -> u16
-    ensures { result ≡ (if nat_lt mark level then mark else 65535) }
-{
-    if mark < level { mark } else { NONE }
-}
-
-// A mark after an extension: the level, if the statement is newly decided.
-fn noted(level: u16, byte: u8, mark: u16) -> u16
-    ensures { result ≡ note_one level byte mark }
-{
-    if byte != 0 && mark == NONE {
-        level
-    } else {
-        mark
+    // Chooses "fails" at the lowest undecided statement, and lets "holds" wait.
+    pub fn fork(&mut self, partial: &mut [u8], s: usize)
+        requires walks { Walks (length partial.old) self.old partial.old }
+        requires at { Lowest partial.old s }
+        ensures { Forks self.old partial.old self.new partial.new }
+    {
+        note(partial, &mut self.marks, self.level);
+        self.choices[usize::from(self.level)] = s as u16;
+        self.level += 1;
+        self.marks[s] = Some(self.level);
+        partial[s] = FAILS;
     }
+
+    // Back to the latest choice that waits, which is now made for "holds"; with none left there is no plan.
+    pub fn back(&mut self, partial: &mut [u8]) -> ControlFlow<Answer>
+        requires { Walks (length partial.old) self.old partial.old }
+        ensures { Backs self.old partial.old result self.new partial.new }
+    {
+        if self.level == 0 {
+            return ControlFlow::Break(Answer::Nothing);
+        }
+        wipe(partial, &mut self.marks, self.level);
+        self.level -= 1;
+        let s = usize::from(self.choices[usize::from(self.level)]);
+        self.marks[s] = Some(self.level);
+        partial[s] = HOLDS;
+        ControlFlow::Continue(())
+    }
+}
+
+// Whether what has the mark stays when all from the level on is taken back.
+fn stands(mark: Option<u16>, level: u16) -> bool
+    ensures { result ≡ stands level mark }
+{
+    mark.is_some_and(|at| at < level)
 }
 
 // Takes back what was decided at the level or above.
-pub fn wipe(bytes: &mut [u8], marks: &mut [u16], level: u16)
-    requires { length marks.old ≡ length bytes.old }
-    ensures bytes { bytes.new ≡ keep_b level marks.old bytes.old }
-    ensures marks { marks.new ≡ keep_m level marks.old }
+fn wipe(partial: &mut [u8], marks: &mut [Option<u16>], level: u16)
+    requires { length partial.old ≤ length marks.old }
+    ensures bytes { partial.new ≡ keep_b level marks.old partial.old }
+    ensures marks { marks.new ≡ keep_m level partial.old marks.old }
 {
-    for i in 0..bytes.len() {
-        bytes[i] = kept(bytes[i], marks[i], level);
-        marks[i] = kept_mark(marks[i], level);
+    for (i, byte) in partial.iter_mut().enumerate() {
+        if !stands(marks[i], level) {
+            *byte = UNDECIDED;
+            marks[i] = None;
+        }
     }
 }
 
 // Marks what is newly decided with the level.
-fn note(bytes: &[u8], marks: &mut [u16], level: u16)
-    requires { length marks.old ≡ length bytes.now }
-    ensures { marks.new ≡ note_m level bytes.now marks.old }
+fn note(partial: &[u8], marks: &mut [Option<u16>], level: u16)
+    requires { length partial.now ≤ length marks.old }
+    ensures { marks.new ≡ note_m level partial.now marks.old }
 {
-    for i in 0..bytes.len() {
-        marks[i] = noted(level, bytes[i], marks[i]);
+    for (i, &byte) in partial.iter().enumerate() {
+        if byte != UNDECIDED {
+            marks[i] = marks[i].or(Some(level));
+        }
     }
-}
-
-// Back to the latest choice that waits, which is now made for "holds".
-pub fn back(bytes: &mut [u8], marks: &mut [u16], choices: &[u16], level: u16) -> u16
-    requires marks { length marks.old ≡ length bytes.old }
-    requires level { 0 < level }
-    requires choices { level ≤ length choices.now }
-    requires at { slice_index choices.now (level - 1) < length bytes.old }
-    ensures level { suc result ≡ level }
-    ensures bytes { bytes.new ≡ slice_set (keep_b level marks.old bytes.old) (slice_index choices.now result) 1 }
-    ensures marks { marks.new ≡ slice_set (keep_m level marks.old) (slice_index choices.now result) result }
-{
-    let below = level - 1;
-    let s = choices[below as usize] as usize;
-    wipe(bytes, marks, level);
-    bytes[s] = HOLDS;
-    marks[s] = below;
-    below
-}
-
-// Chooses "fails" at the statement, and lets "holds" wait.
-pub fn fork(bytes: &mut [u8], marks: &mut [u16], choices: &mut [u16], s: usize, level: u16) -> u16
-    requires marks { length marks.old ≡ length bytes.old }
-    requires at { s < length bytes.old }
-    requires level { level < length choices.old }
-    requires choices { length choices.old ≤ 512 }
-    requires bytes { length bytes.old ≤ 512 }
-    ensures level { result ≡ suc level }
-    ensures bytes { bytes.new ≡ slice_set bytes.old s 2 }
-    ensures marks { marks.new ≡ slice_set (note_m level bytes.old marks.old) s result }
-    ensures choices { choices.new ≡ slice_set choices.old level s }
-{
-    note(bytes, marks, level);
-    let above = level + 1;
-    bytes[s] = FAILS;
-    marks[s] = above;
-    choices[level as usize] = s as u16;
-    above
 }

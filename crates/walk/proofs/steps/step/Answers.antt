@@ -1,38 +1,25 @@
-use Rattle.std.proofs.Common.{arith}
-use Rattle.walk.proofs.Stepping.{step_leaf, step_ended, step_forked, step_back, back_asks, fork_asks}
+use Rattle.std.proofs.Common.{Ok, subst}
+use Rattle.base.specs.Extending.{Extends}
+use Rattle.walk.proofs.Looking.{none_open, lowest_within}
+use Rattle.walk.proofs.Stepping.{step_back, step_leaf, fork_walks, step_fork}
 use Rattle.walk.proofs.steps.step.Goals as goal
 
-pub returns-in-Leaf : goal.returns-in-Leaf
-returns-in-Leaf g c =
-    step_leaf _ _ _ (g.B.Base.lawful c.args.base.now) c.args.level c.args.marks.now c.args.choices.now c.args.bytes.now
-    c.requires c.look_at.new.bytes c.in-Leaf.ensures
+pub returns-in-Clash : goal.returns-in-Clash
+returns-in-Clash g c =
+    let e = subst (λ y. Extends (g.B.Base.wide c.args.base.now) (g.B.Base.outcome c.args.base.now) c.args.partial.now (Ok y) c.extend.new.partial) c.in-Clash.is c.in_ok-extend.ensures in
+    step_back _ _ _ (g.B.Base.lawful c.args.base.now) c.args.trail.now c.args.partial.now c.requires c.back.result c.back.new.self c.extend.new.partial c.back.new.partial e.1 e.2 c.back.ensures
 
-pub returns-then-level-eq0 : goal.returns-then-level-eq0
-returns-then-level-eq0 g c =
-    step_ended _ _ _ (g.B.Base.lawful c.args.base.now) c.args.level c.args.marks.now c.args.choices.now c.args.bytes.now
-    c.requires c.in-Dead.ensures.0 c.if-level-eq0.true
+pub returns-in-None : goal.returns-in-None
+returns-in-None g c =
+    let e = subst (λ y. Extends (g.B.Base.wide c.args.base.now) (g.B.Base.outcome c.args.base.now) c.args.partial.now (Ok y) c.extend.new.partial) c.in-Fits.is c.in_ok-extend.ensures in
+    step_leaf _ _ _ (g.B.Base.lawful c.args.base.now) c.args.trail.now c.args.partial.now c.requires c.extend.new.partial e.1 (none_open _ c.in-None.ensures)
 
-pub back-requires : goal.back-requires
-back-requires g c =
-    let a = back_asks _ c.args.level c.args.marks.now c.args.choices.now c.args.bytes.now c.look_at.new.bytes c.requires c.in-Dead.ensures.1 (omega arith) in
-    record { marks = a.0; level = a.1; choices = a.2; at = a.3 }
+pub fork-requires-clause-walks : goal.fork-requires-clause-walks
+fork-requires-clause-walks g c =
+    let e = subst (λ y. Extends (g.B.Base.wide c.args.base.now) (g.B.Base.outcome c.args.base.now) c.args.partial.now (Ok y) c.extend.new.partial) c.in-Fits.is c.in_ok-extend.ensures in
+    fork_walks _ _ _ (g.B.Base.lawful c.args.base.now) c.args.trail.now c.args.partial.now c.requires c.extend.new.partial e.1
 
-pub returns-else-level-eq0 : goal.returns-else-level-eq0
-returns-else-level-eq0 g c =
-    step_back _ _ _ (g.B.Base.lawful c.args.base.now) c.args.level c.back.result c.args.marks.now c.args.choices.now c.args.bytes.now
-    c.requires c.look_at.new.bytes c.in-Dead.ensures.1 c.in-Dead.ensures.0 c.back.ensures.level
-    c.back.new.marks c.back.new.bytes c.back.ensures.bytes c.back.ensures.marks
-
-pub fork-requires : goal.fork-requires
-fork-requires g c =
-    let e = c.in-Split.ensures in
-    let a = fork_asks _ _ _ (g.B.Base.lawful c.args.base.now) c.args.level c.args.marks.now c.args.choices.now c.args.bytes.now
-    c.requires c.look_at.new.bytes e.1 e.2 c.in-Split.s e.3 e.4 in
-    record { marks = a.0; at = a.1; level = a.2; choices = a.3; bytes = a.4 }
-
-pub returns-in-Split : goal.returns-in-Split
-returns-in-Split g c =
-    let e = c.in-Split.ensures in
-    step_forked _ _ _ (g.B.Base.lawful c.args.base.now) c.args.level c.args.marks.now c.args.choices.now c.args.bytes.now
-    c.requires c.look_at.new.bytes e.1 e.2 c.in-Split.s e.3 e.4 e.0 c.fork.result c.fork.new.marks c.fork.new.choices c.fork.new.bytes
-    c.fork.ensures.level c.fork.ensures.marks c.fork.ensures.choices c.fork.ensures.bytes
+pub returns-in-Some : goal.returns-in-Some
+returns-in-Some g c =
+    let e = subst (λ y. Extends (g.B.Base.wide c.args.base.now) (g.B.Base.outcome c.args.base.now) c.args.partial.now (Ok y) c.extend.new.partial) c.in-Fits.is c.in_ok-extend.ensures in
+    step_fork _ _ _ (g.B.Base.lawful c.args.base.now) c.args.trail.now c.args.partial.now c.requires c.extend.new.partial e.1 c.fork.new.self c.fork.new.partial (lowest_within _ c.in-Some.s c.in-Some.ensures) c.fork.ensures
