@@ -1,10 +1,6 @@
 // Tests on partials, groups and plans as bytes that every source needs.
-ghost use Rattle.std.specs.Prelude.{◌≡◌, Ok, Err, Decides, MatchBool, slice_index};
-ghost use Rattle.source.specs.Plans.{UpTo, Agrees, Marks, FailsMarked, Serves};
-ghost use Rattle.source.specs.Asked.{Refused, Taken, Checked};
-ghost use Rattle.source.specs.declared.Refusal.{Refusal as Cause};
-
-use crate::{Refusal, WIDTH_MAX};
+ghost use Rattle.std.specs.Prelude.{◌≡◌, Decides, MatchBool, slice_index};
+ghost use Rattle.source.specs.Plans.{UpTo, Agrees, Marks, FailsMarked};
 
 // The bytes of a partial. A plan has the last two only, and a pin is one of them.
 // Stays: partials, pins, groups and plans are lent as bytes, so these are numbers, and a byte over the largest is refused.
@@ -57,40 +53,4 @@ pub fn fails_marked(group: &[u8], plan: &[u8]) -> bool
         .iter()
         .enumerate()
         .any(|(i, &mark)| mark == MARKED && byte_at(plan, i) == FAILS)
-}
-
-// Whether the plan agrees with the pins and meets the group.
-pub fn serves(pins: &[u8], group: &[u8], plan: &[u8]) -> bool
-    ensures { MatchBool result (Serves pins.now group.now plan.now) (Serves pins.now group.now plan.now → ⊥) }
-{
-    agrees(pins, plan) && (!marks_any(group) || fails_marked(group, plan))
-}
-
-// The first refusal that applies to a question over `width` statements, in the order of their numbers: that one
-// exactly when its cause is there, and none exactly when the question is taken.
-pub fn check(width: usize, pins: &[u8], group: &[u8], place: &[u8]) -> Result<(), Refusal>
-    ensures cause { Checked width pins.now group.now place.now result }
-    ensures only { (e : Cause) → Refused width pins.now group.now place.now e → result ≡ Err e }
-    ensures taken { Taken width pins.now group.now place.now → result ≡ Ok tt }
-{
-    first_cause(width, pins, group, place)
-}
-
-// The same, by its cause alone.
-fn first_cause(width: usize, pins: &[u8], group: &[u8], place: &[u8]) -> Result<(), Refusal>
-    ensures { Checked width pins.now group.now place.now result }
-{
-    if pins.len() != width || group.len() != width || place.len() != width {
-        return Err(Refusal::Length);
-    }
-    if !up_to(pins, FAILS) {
-        return Err(Refusal::Value);
-    }
-    if !up_to(group, MARKED) {
-        return Err(Refusal::Mark);
-    }
-    if width > WIDTH_MAX {
-        return Err(Refusal::Wide);
-    }
-    Ok(())
 }

@@ -8,6 +8,9 @@ ghost use Rattle.source.specs.Asked.{Asked};
 
 pub mod asking;
 pub mod bytes;
+mod question;
+
+pub use question::Question;
 
 // The most statements that a question may be asked over.
 pub const WIDTH_MAX: usize = 512;
@@ -56,6 +59,6 @@ pub trait Source {
 
     // A plan that agrees with the pins and fails at a statement that the group marks, if it marks any. The plan goes
     // into the place; a source that finds none, or sends the question away, leaves the place as it was.
-    fn question(&self, pins: &[u8], group: &[u8], place: &mut [u8]) -> Result<Answer, Refusal>
-        ensures { Asked (wide self.now) (Of (wide self.now) (plan self.now)) pins.now group.now place.old result place.new };
+    fn question(&self, question: Question<'_>, place: &mut [u8]) -> Result<Answer, Refusal>
+        ensures { Asked (wide self.now) (Of (wide self.now) (plan self.now)) question.entry.pins.now question.entry.group.now place.old result place.new };
 }
