@@ -6,7 +6,7 @@ ghost use Rattle.source.specs.Plans.{Of};
 ghost use Rattle.certain.specs.Certain.{Told, only_mark};
 
 use source::bytes::{MARKED, UNMARKED};
-use source::{Answer, Refusal, Source};
+use source::{Answer, Question, Refusal, Source};
 
 // Makes the group that marks the statement and nothing else.
 pub fn mark_only(group: &mut [u8], statement: usize)
@@ -33,5 +33,5 @@ pub fn is_certain<S: Source>(
 {
     mark_only(group, statement);
     // A plan that fails at the statement refutes it; where there is none it is certain.
-    Ok(source.question(pins, group, place)? == Answer::Nothing)
+    Ok(source.question(Question { pins, group }, place)? == Answer::Nothing)
 }

@@ -7,7 +7,7 @@ use clauses::run::Run;
 use closing::Closing;
 use search::Search;
 use source::bytes::{FAILS, HOLDS, MARKED, UNDECIDED, marks_any};
-use source::{Answer, Refusal, WIDTH_MAX};
+use source::{Answer, Question, Refusal, WIDTH_MAX};
 use std::alloc::{AllocError, Global};
 use std::cell::Cell;
 use std::io;
@@ -70,14 +70,14 @@ fn settle<B: Base>(
     open: &mut [u8],
     place: &mut [u8],
 ) -> Result<usize, Refusal> {
-    search.first_plan(none, none, place)?;
+    search.first_plan(Question::new(none, none), place)?;
     open_holding(place, open);
     // Each question but the last closes a statement.
     for asked in 1..=WIDTH_MAX {
         if !marks_any(open) {
             return Ok(asked);
         }
-        if search.first_plan(none, open, place)? == Answer::Nothing {
+        if search.first_plan(Question::new(none, open), place)? == Answer::Nothing {
             return Ok(asked + 1);
         }
         close_failing(place, open);

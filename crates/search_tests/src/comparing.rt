@@ -4,8 +4,8 @@ ghost use Rattle.std.specs.Prelude.{◌≤◌};
 use crate::enumerator::{Rows, first_row, string, strings};
 use base::Base;
 use search::Search;
-use source::Answer;
 use source::bytes::{FAILS, MARKED};
+use source::{Answer, Question};
 
 // A byte that no plan has, to see that a place is left alone.
 const UNTOUCHED: u8 = 7;
@@ -20,7 +20,7 @@ fn same_answer<const N: usize, B: Base, T: Rows>(
     requires { N ≤ 8 }
 {
     let mut place = [UNTOUCHED; N];
-    let answer = search.first_plan(pins, group, &mut place);
+    let answer = search.first_plan(Question::new(pins, group), &mut place);
     match first_row(rows, pins, group) {
         Some(row) => answer == Ok(Answer::Plan) && place == row,
         None => answer == Ok(Answer::Nothing) && place == [UNTOUCHED; N],

@@ -6,7 +6,7 @@ use crate::enumerator::Rows;
 use crate::some_holds::SomeHolds;
 use search::Search;
 use source::bytes::{FAILS, HOLDS};
-use source::{Answer, Refusal, Source};
+use source::{Answer, Question, Refusal, Source};
 
 #[derive(Drop)]
 struct Somewhere;
@@ -44,7 +44,7 @@ fn the_deepest_walk(rt: HostRuntime) {
     let zeros = [0u8; 512];
     let mut place = [7u8; 512];
     assert_eq!(rt; search.width(), 512);
-    let answer = search.question(&zeros, &zeros, &mut place);
+    let answer = search.question(Question::new(&zeros, &zeros), &mut place);
     assert_eq!(rt; answer, Ok(Answer::Plan));
     let mut deepest = [FAILS; 512];
     deepest[511] = HOLDS;
@@ -57,11 +57,11 @@ fn refusals_in_order(rt: HostRuntime) {
         base: SomeHolds::over(2),
     };
     let mut place = [7u8; 2];
-    let short = search.first_plan(&[3], &[2, 0], &mut place);
+    let short = search.first_plan(Question::new(&[3], &[2, 0]), &mut place);
     assert_eq!(rt; short, Err(Refusal::Length));
-    let value = search.first_plan(&[0, 3], &[2, 0], &mut place);
+    let value = search.first_plan(Question::new(&[0, 3], &[2, 0]), &mut place);
     assert_eq!(rt; value, Err(Refusal::Value));
-    let mark = search.first_plan(&[0, 2], &[2, 0], &mut place);
+    let mark = search.first_plan(Question::new(&[0, 2], &[2, 0]), &mut place);
     assert_eq!(rt; mark, Err(Refusal::Mark));
     assert_eq!(rt; place, [7, 7]);
 }

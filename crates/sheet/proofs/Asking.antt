@@ -1,9 +1,10 @@
 -- A question asked with parts of longer tables.
-use Rattle.std.proofs.Common.{◌≡◌, ℕ, ◌<◌, ◌≤◌, Bool, true, false, List, ◌++◌, length, take, MatchBool, MatchOption, sym, subst, arith}
+use Rattle.std.proofs.Common.{◌≡◌, ℕ, ◌<◌, ◌≤◌, Bool, true, false, List, ◌++◌, length, take, MatchOption, sym, subst, arith}
 use Rattle.std.proofs.lemmas.List.{length-take, get_or-take, take_at}
 use Rattle.std.specs.Bool.{then_some}
 use Rattle.source.specs.Plans.{UpTo, Serves}
-use Rattle.sheet.specs.Asks.{Served, Unserved, Found, NotFound}
+use Rattle.source.specs.Asked.{Taken, Finds}
+use Rattle.sheet.specs.Asks.{Unserved, Found, NotFound}
 
 pub up_to_take : (n w : ℕ) (xs : List ℕ) → UpTo n xs → w ≤ length xs → UpTo n (take w xs)
 up_to_take n w xs u h k l =
@@ -16,10 +17,10 @@ length_cut w u xs e h = simp length-take (omega arith)
 
 -- the answer for parts of longer tables
 pub found
-    : (w u : ℕ) (plan : List ℕ → Type 0) → ((p : List ℕ) → plan p → length p ≡ w) → (ps gs p rest : List ℕ) (r : Bool) → u ≡ w
-    → MatchBool r (Served plan (take u ps) (take u gs) p) (Unserved plan (take u ps) (take u gs))
+    : (w u : ℕ) (plan : List ℕ → Type 0) → ((p : List ℕ) → plan p → length p ≡ w) → (ps gs before p rest : List ℕ) (r : Bool) → u ≡ w
+    → Taken w (take u ps) (take u gs) before → Finds w plan (take u ps) (take u gs) before r p
     → MatchOption (then_some r (p ++ rest)) (NotFound w plan ps gs) (Found w plan ps gs)
-found w u plan long ps gs p rest true e (q, s) =
-    subst (λ x. plan x × Serves (take w ps) (take w gs) x) (sym (take_at p rest w (long p q)))
-    (q, subst (λ x. Serves (take x ps) (take x gs) p) e s)
-found w u plan long ps gs p rest false e f = subst (λ x. Unserved plan (take x ps) (take x gs)) e f
+found w u plan long ps gs before p rest true e t h =
+    subst (λ x. plan x × Serves (take w ps) (take w gs) x) (sym (take_at p rest w (long p h.1)))
+    (h.1, subst (λ x. Serves (take x ps) (take x gs) p) e h.2)
+found w u plan long ps gs before p rest false e t h = subst (λ x. Unserved plan (take x ps) (take x gs)) e (h.0 t)

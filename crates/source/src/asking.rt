@@ -2,11 +2,11 @@
 ghost use Rattle.source.specs.Plans.{Of};
 ghost use Rattle.source.specs.Asked.{Finds};
 
-use crate::{Answer, Source};
+use crate::{Answer, Question, Source};
 
 // Whether the source has a plan that serves, now in the place. A question that is refused finds none.
-pub fn finds<S: Source>(source: &S, pins: &[u8], group: &[u8], place: &mut [u8]) -> bool
-    ensures { Finds (S.wide source.now) (Of (S.wide source.now) (S.plan source.now)) pins.now group.now place.old result place.new }
+pub fn finds<S: Source>(source: &S, question: Question<'_>, place: &mut [u8]) -> bool
+    ensures { Finds (S.wide source.now) (Of (S.wide source.now) (S.plan source.now)) question.entry.pins.now question.entry.group.now place.old result place.new }
 {
-    source.question(pins, group, place) == Ok(Answer::Plan)
+    source.question(question, place) == Ok(Answer::Plan)
 }

@@ -14,7 +14,14 @@ pub struct Question<'a> {
     pub group: &'a [u8],
 }
 
-impl Question<'_> {
+impl<'a> Question<'a> {
+    pub fn new(pins: &'a [u8], group: &'a [u8]) -> Self
+        ensures pins { result.pins.now ≡ pins.now }
+        ensures group { result.group.now ≡ group.now }
+    {
+        Question { pins, group }
+    }
+
     // Whether the plan agrees with the pins and meets the group.
     pub fn is_served_by(self, plan: &[u8]) -> bool
         ensures { MatchBool result (Serves self.entry.pins.now self.entry.group.now plan.now) (Serves self.entry.pins.now self.entry.group.now plan.now → ⊥) }

@@ -5,8 +5,8 @@ ghost use Rattle.source.specs.Asked.{Asked};
 ghost use Rattle.sources.specs.Rows.{Among, FirstServing, GivesFirst, Listable, Lending, NoneServing, row_at};
 
 use crate::refusal::ListingRefusal;
-use source::bytes::{FAILS, HOLDS, check, serves};
-use source::{Answer, Refusal, Source, WIDTH_MAX};
+use source::bytes::{FAILS, HOLDS};
+use source::{Answer, Question, Refusal, Source, WIDTH_MAX};
 
 // The most plans that may be listed.
 pub const PLANS_MAX: usize = 4096;
@@ -56,10 +56,10 @@ impl<'a> Listed<'a> {
     }
 
     // The number of the first row that agrees with the pins and meets the group.
-    pub fn first_serving(&self, pins: &[u8], group: &[u8]) -> Option<usize>
-        ensures { MatchOption result (NoneServing self.now.width self.now.count self.now.rows.now pins.now group.now) (λ i. FirstServing self.now.width self.now.count self.now.rows.now pins.now group.now i) }
+    pub fn first_serving(&self, question: Question<'_>) -> Option<usize>
+        ensures { MatchOption result (NoneServing self.now.width self.now.count self.now.rows.now question.entry.pins.now question.entry.group.now) (λ i. FirstServing self.now.width self.now.count self.now.rows.now question.entry.pins.now question.entry.group.now i) }
     {
-        (0..self.count).find(|&i| serves(pins, group, self.row(i)))
+        (0..self.count).find(|&i| question.is_served_by(self.row(i)))
     }
 
     // Row i.
@@ -83,12 +83,12 @@ impl Source for Listed<'_> {
     }
 
     // Besides what every source promises: the plan given is the first row that serves.
-    fn question(&self, pins: &[u8], group: &[u8], place: &mut [u8]) -> Result<Answer, Refusal>
-        ensures asked { Asked self.now.width (Of self.now.width (Among self.now.width self.now.count self.now.rows.now)) pins.now group.now place.old result place.new }
-        ensures gives_first { GivesFirst self.now.width self.now.count self.now.rows.now pins.now group.now result place.new }
+    fn question(&self, question: Question<'_>, place: &mut [u8]) -> Result<Answer, Refusal>
+        ensures asked { Asked self.now.width (Of self.now.width (Among self.now.width self.now.count self.now.rows.now)) question.entry.pins.now question.entry.group.now place.old result place.new }
+        ensures gives_first { GivesFirst self.now.width self.now.count self.now.rows.now question.entry.pins.now question.entry.group.now result place.new }
     {
-        check(self.width, pins, group, place)?;
-        let Some(i) = self.first_serving(pins, group) else {
+        question.check(self.width, place)?;
+        let Some(i) = self.first_serving(question) else {
             return Ok(Answer::Nothing);
         };
         place.copy_from_slice(self.row(i));

@@ -5,8 +5,8 @@ ghost use Rattle.sources.specs.Joined.{joined_width, Joining, Posed, AskedBoth, 
 ghost use Rattle.sources.specs.Shares.{Blank, Shared};
 
 use source::asking::finds;
-use source::bytes::{UNDECIDED, UNMARKED, check, marks_any};
-use source::{Answer, Refusal, Source, WIDTH_MAX};
+use source::bytes::{UNDECIDED, UNMARKED, marks_any};
+use source::{Answer, Question, Refusal, Source, WIDTH_MAX};
 
 // What a source reports that has more than WIDTH_MAX statements.
 const TOO_WIDE: usize = WIDTH_MAX + 1;
@@ -44,10 +44,10 @@ impl<F: Source, S: Source> Source for Pair<F, S> {
         (self.first.width() + self.second.width()).min(TOO_WIDE)
     }
 
-    fn question(&self, pins: &[u8], group: &[u8], place: &mut [u8]) -> Result<Answer, Refusal> {
+    fn question(&self, question: Question<'_>, place: &mut [u8]) -> Result<Answer, Refusal> {
         let width = self.width();
-        check(width, pins, group, place)?;
-        let Some(plan) = self.join(pins, group) else {
+        question.check(width, place)?;
+        let Some(plan) = self.join(question) else {
             return Ok(Answer::Nothing);
         };
         place.copy_from_slice(&plan[..width]);
@@ -57,10 +57,11 @@ impl<F: Source, S: Source> Source for Pair<F, S> {
 
 impl<F: Source, S: Source> Pair<F, S> {
     // Finds a joining that serves: one of its plans fails at a marked statement of its half, and both agree with the pins.
-    fn join(&self, pins: &[u8], group: &[u8]) -> Option<[u8; WIDTH_MAX]>
-        requires { Posed (F.Source.wide self.now.first + S.Source.wide self.now.second) pins.now group.now }
-        ensures { AskedJoining (F.Source.wide self.now.first) (F.Source.plan self.now.first) (S.Source.wide self.now.second) (S.Source.plan self.now.second) pins.now group.now result }
+    fn join(&self, question: Question<'_>) -> Option<[u8; WIDTH_MAX]>
+        requires { Posed (F.Source.wide self.now.first + S.Source.wide self.now.second) question.pins.now question.group.now }
+        ensures { AskedJoining (F.Source.wide self.now.first) (F.Source.plan self.now.first) (S.Source.wide self.now.second) (S.Source.plan self.now.second) question.entry.pins.now question.entry.group.now result }
     {
+        let Question { pins, group } = question;
         let unmarked = unmarked();
         let (first_group, second_group) = group.split_at(self.first.width());
         let first_unmarked = &unmarked[..first_group.len()];
@@ -89,14 +90,17 @@ impl<F: Source, S: Source> Pair<F, S> {
     {
         let (cut, width) = (self.first.width(), pins.len());
         let (first_pins, second_pins) = pins.split_at(cut);
+        let first = Question {
+            pins: first_pins,
+            group: first_group,
+        };
+        let second = Question {
+            pins: second_pins,
+            group: second_group,
+        };
         let mut found = [UNDECIDED; WIDTH_MAX];
-        if finds(&self.first, first_pins, first_group, &mut found[..cut])
-            && finds(
-                &self.second,
-                second_pins,
-                second_group,
-                &mut found[cut..width],
-            )
+        if finds(&self.first, first, &mut found[..cut])
+            && finds(&self.second, second, &mut found[cut..width])
         {
             Some(found)
         } else {

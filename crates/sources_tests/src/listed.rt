@@ -1,5 +1,5 @@
 // Plans that are listed.
-use source::{Answer, Refusal, Source};
+use source::{Answer, Question, Refusal, Source};
 use sources::{Listed, ListingRefusal};
 use std::test::Fail;
 
@@ -10,7 +10,7 @@ fn gives_the_first_row(rt: HostRuntime) -> Result<(), Fail> {
     let plans = Listed::new(2, 4, &rows)?;
     let mut place = [0u8; 2];
     assert_eq!(rt;
-        plans.question(&[0, 0], &[1, 1], &mut place),
+        plans.question(Question::new(&[0, 0], &[1, 1]), &mut place),
         Ok(Answer::Plan)
     );
     assert_eq!(rt; place, [2, 1]);
@@ -24,12 +24,12 @@ fn gives_none(rt: HostRuntime) -> Result<(), Fail> {
     let plans = Listed::new(2, 2, &rows)?;
     let mut place = [7, 9];
     assert_eq!(rt;
-        plans.question(&[0, 0], &[1, 0], &mut place),
+        plans.question(Question::new(&[0, 0], &[1, 0]), &mut place),
         Ok(Answer::Nothing)
     );
     assert_eq!(rt; place, [7, 9]);
     assert_eq!(rt;
-        plans.question(&[2, 0], &[0, 0], &mut place),
+        plans.question(Question::new(&[2, 0], &[0, 0]), &mut place),
         Ok(Answer::Nothing),
         "pins that no plan agrees with"
     );
@@ -43,7 +43,7 @@ fn empty_group(rt: HostRuntime) -> Result<(), Fail> {
     let plans = Listed::new(2, 1, &rows)?;
     let mut place = [0u8; 2];
     assert_eq!(rt;
-        plans.question(&[1, 0], &[0, 0], &mut place),
+        plans.question(Question::new(&[1, 0], &[0, 0]), &mut place),
         Ok(Answer::Plan)
     );
     assert_eq!(rt; place, [1, 1]);
@@ -54,12 +54,21 @@ fn empty_group(rt: HostRuntime) -> Result<(), Fail> {
 #[test]
 fn no_statements(rt: HostRuntime) -> Result<(), Fail> {
     let mut plans = Listed::none();
-    assert_eq!(rt; plans.question(&[], &[], &mut []), Ok(Answer::Nothing));
+    assert_eq!(rt;
+        plans.question(Question::new(&[], &[]), &mut []),
+        Ok(Answer::Nothing)
+    );
     plans.lend(0, 1, &[])?;
     assert_eq!(rt; plans.width(), 0);
-    assert_eq!(rt; plans.question(&[], &[], &mut []), Ok(Answer::Plan));
+    assert_eq!(rt;
+        plans.question(Question::new(&[], &[]), &mut []),
+        Ok(Answer::Plan)
+    );
     plans.lend(0, 0, &[])?;
-    assert_eq!(rt; plans.question(&[], &[], &mut []), Ok(Answer::Nothing));
+    assert_eq!(rt;
+        plans.question(Question::new(&[], &[]), &mut []),
+        Ok(Answer::Nothing)
+    );
     Ok(())
 }
 
@@ -70,19 +79,19 @@ fn refusals_in_order(rt: HostRuntime) -> Result<(), Fail> {
     let plans = Listed::new(2, 1, &rows)?;
     let mut place = [5, 6];
     assert_eq!(rt;
-        plans.question(&[3, 0, 0], &[2, 0], &mut place),
+        plans.question(Question::new(&[3, 0, 0], &[2, 0]), &mut place),
         Err(Refusal::Length)
     );
     assert_eq!(rt;
-        plans.question(&[0, 0], &[0], &mut place),
+        plans.question(Question::new(&[0, 0], &[0]), &mut place),
         Err(Refusal::Length)
     );
     assert_eq!(rt;
-        plans.question(&[3, 0], &[2, 0], &mut place),
+        plans.question(Question::new(&[3, 0], &[2, 0]), &mut place),
         Err(Refusal::Value)
     );
     assert_eq!(rt;
-        plans.question(&[2, 0], &[2, 0], &mut place),
+        plans.question(Question::new(&[2, 0], &[2, 0]), &mut place),
         Err(Refusal::Mark)
     );
     assert_eq!(rt; place, [5, 6]);
@@ -131,7 +140,7 @@ fn refused_rows(rt: HostRuntime) -> Result<(), Fail> {
     );
     let mut place = [0u8; 2];
     assert_eq!(rt;
-        plans.question(&[0, 0], &[0, 0], &mut place),
+        plans.question(Question::new(&[0, 0], &[0, 0]), &mut place),
         Ok(Answer::Plan)
     );
     assert_eq!(rt; place, [2, 1]);

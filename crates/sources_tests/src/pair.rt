@@ -1,5 +1,5 @@
 // Two sources joined.
-use source::{Answer, Refusal, Source};
+use source::{Answer, Question, Refusal, Source};
 use sources::{Listed, Pair};
 use std::test::Fail;
 
@@ -12,17 +12,17 @@ fn one_half_is_marked(rt: HostRuntime) -> Result<(), Fail> {
     assert_eq!(rt; pair.width(), 3);
     let mut place = [0u8; 3];
     assert_eq!(rt;
-        pair.question(&[0, 0, 0], &[1, 1, 0], &mut place),
+        pair.question(Question::new(&[0, 0, 0], &[1, 1, 0]), &mut place),
         Ok(Answer::Plan)
     );
     assert_eq!(rt; place, [2, 1, 1]);
     assert_eq!(rt;
-        pair.question(&[0, 0, 0], &[0, 0, 1], &mut place),
+        pair.question(Question::new(&[0, 0, 0], &[0, 0, 1]), &mut place),
         Ok(Answer::Plan)
     );
     assert_eq!(rt; place, [1, 1, 2]);
     assert_eq!(rt;
-        pair.question(&[0, 0, 1], &[0, 0, 0], &mut place),
+        pair.question(Question::new(&[0, 0, 1], &[0, 0, 0]), &mut place),
         Ok(Answer::Plan)
     );
     assert_eq!(rt; place, [1, 1, 1]);
@@ -37,7 +37,7 @@ fn one_half_can_fail(rt: HostRuntime) -> Result<(), Fail> {
     let pair = Pair::new(first, second);
     let mut place = [0u8; 2];
     assert_eq!(rt;
-        pair.question(&[0, 0], &[1, 1], &mut place),
+        pair.question(Question::new(&[0, 0], &[1, 1]), &mut place),
         Ok(Answer::Plan)
     );
     assert_eq!(rt; place, [1, 2]);
@@ -52,7 +52,7 @@ fn other_half_can_fail(rt: HostRuntime) -> Result<(), Fail> {
     let pair = Pair::new(first, second);
     let mut place = [0u8; 2];
     assert_eq!(rt;
-        pair.question(&[0, 0], &[1, 1], &mut place),
+        pair.question(Question::new(&[0, 0], &[1, 1]), &mut place),
         Ok(Answer::Plan)
     );
     assert_eq!(rt; place, [2, 1]);
@@ -67,27 +67,27 @@ fn place_is_put_back(rt: HostRuntime) -> Result<(), Fail> {
     let pair = Pair::new(first, second);
     let mut place = [8, 9];
     assert_eq!(rt;
-        pair.question(&[0, 2], &[1, 0], &mut place),
+        pair.question(Question::new(&[0, 2], &[1, 0]), &mut place),
         Ok(Answer::Nothing),
         "contrary pins"
     );
     assert_eq!(rt; place, [8, 9]);
     assert_eq!(rt;
-        pair.question(&[0, 0], &[0, 1], &mut place),
+        pair.question(Question::new(&[0, 0], &[0, 1]), &mut place),
         Ok(Answer::Nothing),
         "nothing marked fails"
     );
     assert_eq!(rt; place, [8, 9]);
     assert_eq!(rt;
-        pair.question(&[0, 3], &[0, 2], &mut place),
+        pair.question(Question::new(&[0, 3], &[0, 2]), &mut place),
         Err(Refusal::Value)
     );
     assert_eq!(rt;
-        pair.question(&[0, 0], &[0, 2], &mut place),
+        pair.question(Question::new(&[0, 0], &[0, 2]), &mut place),
         Err(Refusal::Mark)
     );
     assert_eq!(rt;
-        pair.question(&[0, 0], &[0], &mut place),
+        pair.question(Question::new(&[0, 0], &[0]), &mut place),
         Err(Refusal::Length)
     );
     assert_eq!(rt; place, [8, 9]);
@@ -104,7 +104,7 @@ fn as_wide_as_may_be(rt: HostRuntime) -> Result<(), Fail> {
     assert_eq!(rt; pair.width(), 512);
     let mut place = [0u8; 512];
     assert_eq!(rt;
-        pair.question(&[0u8; 512], &[0u8; 512], &mut place),
+        pair.question(Question::new(&[0u8; 512], &[0u8; 512]), &mut place),
         Ok(Answer::Plan)
     );
     assert_eq!(rt; place[511], 1);
@@ -121,13 +121,16 @@ fn too_wide(rt: HostRuntime) -> Result<(), Fail> {
     assert_eq!(rt; pair.width(), 513);
     let none = [0u8; 513];
     let mut place = [0u8; 513];
-    assert_eq!(rt; pair.question(&none, &none, &mut place), Err(Refusal::Wide));
     assert_eq!(rt;
-        pair.question(&none, &[2u8; 513], &mut place),
+        pair.question(Question::new(&none, &none), &mut place),
+        Err(Refusal::Wide)
+    );
+    assert_eq!(rt;
+        pair.question(Question::new(&none, &[2u8; 513]), &mut place),
         Err(Refusal::Mark)
     );
     assert_eq!(rt;
-        pair.question(&none, &none, &mut [0u8; 512]),
+        pair.question(Question::new(&none, &none), &mut [0u8; 512]),
         Err(Refusal::Length)
     );
     Ok(())
@@ -145,7 +148,7 @@ fn still_too_wide(rt: HostRuntime) -> Result<(), Fail> {
     let none = [0u8; 513];
     let mut place = [0u8; 513];
     assert_eq!(rt;
-        wider.question(&none, &none, &mut place),
+        wider.question(Question::new(&none, &none), &mut place),
         Err(Refusal::Wide)
     );
     Ok(())

@@ -16,6 +16,6 @@ from_zero w n rows pins group (Some i) h = (h.1, h.2, λ k. h.3 k (omega arith))
 pub returns : goal.returns
 returns c =
     let s = c.args.self.now in
-    let serves : ℕ → Type 0 = RowServes s.width s.rows.now c.args.pins.now c.args.group.now in
-    from_zero s.width s.count s.rows.now c.args.pins.now c.args.group.now c.find.result
+    let serves : ℕ → Type 0 = RowServes s.width s.rows.now c.args.question.pins.now c.args.question.group.now in
+    from_zero s.width s.count s.rows.now c.args.question.pins.now c.args.question.group.now c.find.result
     (first_from_Range _ _ _ _ serves (λ i. serves i → ⊥) c.find.ensures.ran (λ i f h. search rules) (λ i f h. (search rules, search rules)))
