@@ -15,14 +15,15 @@ use std::fs::File;
 use std::io;
 use std::io::{ErrorKind, Read, Write};
 use std::process::ExitCode;
+use std::rt::Files;
 use text::{Draft, Fault, NameRow, RuleRow, TEXT_MAX, Tables, Texts, name_of};
 
 // One byte more than a text may have: enough to tell that it is too long.
 const ENOUGH: u64 = TEXT_MAX as u64 + 1;
 
 // The bytes of a file, as far as they count; none where there is no such file.
-fn load(rt: &HostRuntime, path: &str) -> io::Result<Vec<u8>> {
-    let mut bytes = Vec::new(rt.alloc());
+fn load(rt: &impl Files, heap: Global, path: &str) -> io::Result<Vec<u8>> {
+    let mut bytes = Vec::new(heap);
     match File::open(rt, path) {
         Ok(file) => {
             file.take(ENOUGH).read_to_end(&mut bytes)?;
@@ -91,14 +92,13 @@ fn output(heap: Global, texts: Texts, tables: &mut Tables) -> Result<Vec<u8>, Al
     }
 }
 
-fn run(rt: &HostRuntime) -> anyhow::Result<()> {
-    let region = load(rt, "region.txt").context("region.txt")?;
-    let harbour = load(rt, "harbour.txt").context("harbour.txt")?;
+fn run(rt: &(impl Files + Print), heap: Global) -> anyhow::Result<()> {
+    let region = load(rt, heap, "region.txt").context("region.txt")?;
+    let harbour = load(rt, heap, "harbour.txt").context("harbour.txt")?;
     let texts = Texts {
         region: region.as_slice(),
         harbour: harbour.as_slice(),
     };
-    let heap = rt.alloc();
     let mut names = vec![in heap; NameRow::EMPTY; NAMES_MAX]?;
     let mut rules = vec![in heap; RuleRow::EMPTY; RULES_MAX]?;
     let mut entries = vec![in heap; 0u16; ENTRIES_MAX]?;
@@ -108,13 +108,13 @@ fn run(rt: &HostRuntime) -> anyhow::Result<()> {
         entries: &mut entries,
     };
     let out = output(heap, texts, &mut tables)?;
-    rt.stdout().write_all(out.as_slice())?;
+    io::writer(rt).write_all(out.as_slice())?;
     Ok(())
 }
 
 // An error is written under the name of the program, and the status is then 1.
 fn main(rt: HostRuntime) -> anyhow::Result<ExitCode> {
-    if let Err(e) = run(&rt) {
+    if let Err(e) = run(&rt, rt.alloc()) {
         eprintln!(rt; "kubresa: {e:#}")?;
         return Ok(ExitCode::FAILURE);
     }
