@@ -3,7 +3,7 @@ use Rattle.std.specs.Prelude.{ℕ, zero, suc, List, [], ◌∷◌, ◌++◌, Som
 use Rattle.tables.specs.declared.Fault.{Fault}
 use Rattle.tables.specs.declared.NameRow.{NameRow}
 use Rattle.tables.specs.Names.{statement_name}
-use Rattle.tables.specs.Numbers.{number_of}
+use Rattle.tables.specs.Numbers.{fault_text}
 use Rattle.tables.specs.Draft.{Counts, Outcome}
 
 -- the counts, in a line
@@ -12,7 +12,7 @@ counts_line d = codes "statements " ++ (decimal d.names ++ (codes " rules " ++ (
 
 -- a fault, in a line
 abbrev pub fault_line : Fault → List ℕ
-fault_line f = codes "fault " ++ (decimal (number_of f.cause) ++ (codes " text " ++ (decimal f.text ++ (codes " byte " ++ (decimal f.byte ++ (codes " line " ++ (decimal f.line ++ codes "\n")))))))
+fault_line f = fault_text f ++ codes "\n"
 
 -- a statement's number and name, in a line
 abbrev pub name_line : ℕ → List ℕ → List ℕ

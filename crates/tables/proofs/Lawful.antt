@@ -1,5 +1,5 @@
 -- The law of reading, from its parts.
-use Rattle.std.proofs.Common.{◌≡◌, ℕ, ◌≤◌, Bool, true, false, cond, ◌||◌, ltb, leb, List, [], ◌∷◌, ◌++◌, length, take, Some, None, Ok, Err, Option, sym, refl, ap, ◌∙◌, subst, append_assoc, arith, ltb-false}
+use Rattle.std.proofs.Common.{◌≡◌, ℕ, ◌<◌, ◌≤◌, Bool, true, false, cond, ◌||◌, ltb, leb, List, [], ◌∷◌, ◌++◌, length, take, Some, None, Ok, Err, Option, sym, refl, ap, ◌∙◌, subst, append_assoc, arith, ltb-false, leb-false}
 use Rattle.std.proofs.lemmas.Bool.{cond_both, or_parts}
 use Rattle.words.specs.Words.{Token, name, negation, arrow, comma, point}
 use Rattle.words.specs.Running.{Running, more, ended, wrong, running}
@@ -16,8 +16,9 @@ use Rattle.tables.specs.Grammar.{Spot, spot, spots, Rule, IsText}
 use Rattle.tables.specs.Beginnings.{Ended, EndsAt, Begins}
 use Rattle.tables.specs.Limits.{names_max, rules_max, entries_max}
 use Rattle.tables.specs.Room.{used_in, none_known, also_known, new_names, rules_in, entries_in, known_in, Within, Fits}
-use Rattle.tables.specs.Draft.{Counts, Outcome, line_of, refused, refusal_of, short, texts_for, stage_from, settled, read_if, read_of}
+use Rattle.tables.specs.Draft.{Counts, Outcome, line_of, owner_after, refused, refusal_of, short, texts_for, stage_from, settled, read_if, read_of}
 use Rattle.tables.specs.Law.{WrittenAs, Means, Against, misplaced, no_name_row, no_entry_row, no_rule_row, FirstFault, at_word, at_end, at_no_word, Refuted, Reads}
+use Rattle.tables.proofs.Owners.{owned}
 use Rattle.tables.proofs.Ruled.{Ruled}
 use Rattle.tables.proofs.Invariant.{Holds}
 use Rattle.tables.proofs.OnlyNew.{New, only_new}
@@ -131,6 +132,11 @@ module _ (d : Counts) (text earlier : List ℕ) (t : Tables) (l : Limited d) whe
       let b = or_parts (ltb (length t.rules) d.rules) (ltb (length t.entries) d.entries) a.1 in
       record { names = (l.names, ltb-false _ _ a.0); rules = (l.rules, ltb-false _ _ b.0); entries = (l.entries, ltb-false _ _ b.1) }
 
+  not_third : refusal_of d text t ≡ None → d.texts < 2
+  not_third =
+      cond_both (ltb 65536 (length text)) (Some LongText) _ (λ o. o ≡ None → d.texts < 2) (λ _ e. let z : ◌≡◌ {A = ℕ} 0 1 = cc in absurd (omega arith))
+      (λ _. cond_both (leb 2 d.texts) (Some ThirdText) _ (λ o. o ≡ None → d.texts < 2) (λ _ e. let z : ◌≡◌ {A = ℕ} 0 1 = cc in absurd (omega arith)) (λ q _. leb-false _ _ q))
+
   not_short : refusal_of d text t ≡ None → short d t ≡ false
   not_short =
       cond_both (ltb 65536 (length text)) (Some LongText) _ (λ o. o ≡ None → short d t ≡ false) (λ _ e. let z : ◌≡◌ {A = ℕ} 0 1 = cc in absurd (omega arith))
@@ -159,12 +165,12 @@ module _ (d : Counts) (text earlier : List ℕ) (t : Tables) (l : Limited d) whe
     taken_in (on s t') y rs i f = refl
     taken_in (off c at t') y rs i f = absurd (no_fault X d t (running text 0) (length text) rs i.ended i.derives f c at (first_fault X d t (length text) (running text 0) c at y))
 
-    turned_away : (o : Fed) → Tells X (length text) Start (stage_from d) t (running text 0) o → (f : Fault) → (settled d text t o).result ≡ Err f → Refuted d text earlier t f (settled d text t o)
-    turned_away (on s t') y f e = let z : ◌≡◌ {A = ℕ} 0 1 = cc in absurd (omega arith)
-    turned_away (off c at t') y f e =
-        let g : f ≡ record { cause = c; text = d.texts; byte = at; line = line_of text at } = cc in
+    turned_away : d.texts < 2 → (o : Fed) → Tells X (length text) Start (stage_from d) t (running text 0) o → (f : Fault) → (settled d text t o).result ≡ Err f → Refuted d text earlier t f (settled d text t o)
+    turned_away u (on s t') y f e = let z : ◌≡◌ {A = ℕ} 0 1 = cc in absurd (omega arith)
+    turned_away u (off c at t') y f e =
+        let g : f ≡ record { cause = c; text = owner_after d.texts; byte = at; line = line_of text at } = cc in
         subst (λ v. Refuted d text earlier t v (settled d text t (off c at t'))) (sym g)
-        (record { first = first_fault X d t (length text) (running text 0) c at y; text_number = refl; line = refl; counts = refl; tables = refl })
+        (record { first = first_fault X d t (length text) (running text 0) c at y; text_number = owned d.texts u; line = refl; counts = refl; tables = refl })
 
     -- after the region's text, what is known is what is used in it
     goes_on : d.texts ≡ 1 → take d.names t.names ≡ new_names (texts_for 0 earlier []) none_known (spots (running earlier 0)) → (o : Outcome)
@@ -194,10 +200,14 @@ module _ (d : Counts) (text earlier : List ℕ) (t : Tables) (l : Limited d) whe
         unread = λ c' h. let z : ◌≡◌ {A = ℕ} 0 1 = cc in absurd (omega arith);
         granted = said r Ran (tells r) (means r);
         accepts = λ h. taken_in r Ran (tells r);
-        refuted = λ h. turned_away r Ran (tells r);
+        refuted = λ h. turned_away r (not_third e) Ran (tells r);
         onward = λ u f h. goes_on r u f (settled d text t Ran) (said r Ran (tells r) (means r) h);
         fresh = says_new r Ran (only_new d t X (length text) (running text 0) r.names.1 r.rules.1 r.entries.1);
       }
 
   pub lawful : Reads d text earlier t (read_of d text earlier t)
   lawful = accepted (refusal_of d text t) refl
+
+-- what is as reading gives it is lawful
+pub lawful_as : (d : Counts) (text earlier : List ℕ) (t : Tables) (o : Outcome) → Limited d → o ≡ read_of d text earlier t → Reads d text earlier t o
+lawful_as d text earlier t o l e = subst (Reads d text earlier t) (sym e) (lawful d text earlier t l)

@@ -16,3 +16,4 @@ pub mod Knowing
 pub mod FirstUse
 pub mod Rooms
 pub mod Lawful
+pub mod Owners

@@ -3,6 +3,7 @@ use Rattle.std.specs.Prelude.{◌≡◌, [], ◌∷◌, replicate, Ok, Err, code
 use Rattle.words.specs.Words.{name, negation, arrow, point}
 use Rattle.words.specs.Running.{running, more, ended}
 use Rattle.tables.specs.declared.Cause.TheVariants.{OutOfPlace}
+use Rattle.tables.specs.declared.Owner.TheVariants.{Region}
 use Rattle.tables.specs.Feed.{Tables}
 use Rattle.tables.specs.Draft.{Counts, read_of}
 use Rattle.rulebook.specs.Rows.{blank}
@@ -31,7 +32,7 @@ pub two_rules : read_of fresh (codes "a :- not b. b :- not a.") [] room
 unfolding running
 two_rules = refl
 
-pub out_of_place : read_of fresh (codes "a. \n :- .") [] room ≡ record { result = Err (record { cause = OutOfPlace; text = 0; byte = 8; line = 2 }); counts = fresh; tables = room }
+pub out_of_place : read_of fresh (codes "a. \n :- .") [] room ≡ record { result = Err (record { cause = OutOfPlace; text = Region; byte = 8; line = 2 }); counts = fresh; tables = room }
 unfolding running
 out_of_place = refl
 

@@ -1,12 +1,14 @@
 -- What reading a text into a draft does: the result, the draft and the tables then.
-use Rattle.std.specs.Prelude.{ℕ, ◌+◌, ◌-◌, min, Bool, cond, ◌||◌, List, [], ◌++◌, length, take, replicate, Some, None, Ok, Err, count_by, Option, Result, ◌==◌, nat_le, nat_lt}
+use Rattle.std.specs.Prelude.{ℕ, ◌+◌, ◌-◌, Bool, cond, ◌||◌, List, [], ◌++◌, length, take, replicate, Some, None, Ok, Err, count_by, Option, Result, ◌==◌, nat_le, nat_lt}
 use Rattle.words.specs.Words.{ends_line}
 use Rattle.words.specs.Running.{running}
 use Rattle.tables.specs.declared.Fault.{Fault}
 use Rattle.tables.specs.declared.Cause.{Cause}
 use Rattle.tables.specs.declared.Cause.TheVariants.{LongText, ThirdText, ShortTable}
+use Rattle.tables.specs.declared.Owner.{Owner}
+use Rattle.tables.specs.declared.Owner.TheVariants.{Region, Harbour}
 use Rattle.tables.specs.declared.Phase.TheVariants.{Start}
-use Rattle.tables.specs.Limits.{text_max, texts_max}
+use Rattle.tables.specs.Limits.{text_max, texts_max, no_head}
 use Rattle.rulebook.specs.Rows.{blank}
 use Rattle.tables.specs.Names.{blank_name}
 use Rattle.tables.specs.Feed.{Stage, Tables, Texts, Fed, on, off}
@@ -41,9 +43,13 @@ cleared_tables d t = record { names = cleared d.names blank_name t.names; rules 
 abbrev pub short : Counts → Tables → Bool
 short d t = nat_lt (length t.names) d.names || (nat_lt (length t.rules) d.rules || nat_lt (length t.entries) d.entries)
 
+-- whose the text is that comes after so many: the first is the region's, and any other counts as the harbour's
+abbrev pub owner_after : ℕ → Owner
+owner_after n = cond (n == 0) Region Harbour
+
 -- before the text is read: nothing changes
 abbrev pub refused : Cause → Counts → Tables → Outcome
-refused c d t = record { result = Err (record { cause = c; text = min d.texts 1; byte = 0; line = 1 }); counts = d; tables = t }
+refused c d t = record { result = Err (record { cause = c; text = owner_after d.texts; byte = 0; line = 1 }); counts = d; tables = t }
 
 -- the first text is the region's, the second the harbour's
 abbrev pub texts_for : ℕ → List ℕ → List ℕ → Texts
@@ -51,12 +57,12 @@ texts_for n text earlier = cond (n == 0) (record { region = text; harbour = []; 
 
 -- before the first word
 abbrev pub stage_from : Counts → Stage
-stage_from d = record { phase = Start; head = 0; first = d.entries; names = d.names; rules = d.rules; entries = d.entries }
+stage_from d = record { phase = Start; head = no_head; first = d.entries; names = d.names; rules = d.rules; entries = d.entries }
 
 -- what is left when reading has ended, and when it has stopped
 abbrev pub settled : Counts → List ℕ → Tables → Fed → Outcome
 settled d text t (on s t') = record { result = Ok tt; counts = record { texts = d.texts + 1; names = s.names; rules = s.rules; entries = s.entries }; tables = t' }
-settled d text t (off c at t') = record { result = Err (record { cause = c; text = d.texts; byte = at; line = line_of text at }); counts = d; tables = cleared_tables d t }
+settled d text t (off c at t') = record { result = Err (record { cause = c; text = owner_after d.texts; byte = at; line = line_of text at }); counts = d; tables = cleared_tables d t }
 
 -- the text is read
 abbrev pub taken : Counts → List ℕ → List ℕ → Tables → Outcome

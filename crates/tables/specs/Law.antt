@@ -8,6 +8,7 @@ use Rattle.tables.specs.declared.Cause.{Cause}
 use Rattle.tables.specs.declared.Cause.TheVariants.{OutOfPlace, NoNameRow, NoEntryRow, NoRuleRow}
 use Rattle.rulebook.specs.declared.row.RuleRow.{RuleRow}
 use Rattle.tables.specs.Feed.{Tables, Texts}
+use Rattle.tables.specs.Numbers.{owner_number}
 use Rattle.tables.specs.Reading.{stop_of}
 use Rattle.tables.specs.Grammar.{Spot, spot, spots, Rule, IsText}
 use Rattle.tables.specs.Beginnings.{Ended, EndsAt, Begins}
@@ -56,7 +57,7 @@ module _ (x : Texts) (d : Counts) (t : Tables) where
 -- a text that was begun and refused: the fault is the first, the draft is as before, and every row past its counts is zero
 pub record Refuted (d : Counts) (text earlier : List ℕ) (t : Tables) (f : Fault) (o : Outcome) : Type 0 where
   pub first : FirstFault (texts_for d.texts text earlier) d t (running text 0) (length text) f.cause f.byte
-  pub text_number : f.text ≡ d.texts
+  pub text_number : owner_number f.text ≡ d.texts
   pub line : f.line ≡ line_of text f.byte
   pub counts : o.counts ≡ d
   pub tables : o.tables ≡ cleared_tables d t

@@ -1,5 +1,6 @@
 -- The names of statements, as parts of two texts: what a row names, and the row that a name is found at.
-use Rattle.std.specs.Prelude.{ℕ, ◌+◌, Bool, cond, ◌&&◌, List, [], ◌∷◌, length, take, drop, Some, None, Option, ◌==◌, nat_le, nat_lt, slice_index_or}
+use Rattle.std.specs.Prelude.{ℕ, ◌+◌, Bool, cond, ◌&&◌, List, length, take, drop, Some, None, Option, ◌==◌, nat_le, nat_lt, slice_index_or}
+use Rattle.std.specs.List.{position_from}
 use Rattle.std.specs.Str.{bytes_eq}
 use Rattle.tables.specs.declared.NameRow.{NameRow}
 
@@ -33,8 +34,7 @@ is_name region harbour bytes r = names r region harbour && same_name (part_of r 
 
 -- the number of the lowest row that names these bytes, where the rows are numbered from n
 abbrev pub found : List ℕ → List ℕ → List ℕ → ℕ → List NameRow → Option ℕ
-found region harbour bytes n [] = None
-found region harbour bytes n (r ∷ rs) = cond (is_name region harbour bytes r) (Some n) (found region harbour bytes (n + 1) rs)
+found region harbour bytes = position_from (is_name region harbour bytes)
 
 -- the name of statement n among the first `count` rows, or nothing
 abbrev pub statement_name : List ℕ → List ℕ → ℕ → ℕ → List NameRow → Option (List ℕ)

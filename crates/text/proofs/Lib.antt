@@ -1,5 +1,2 @@
--- Lemmas on naming, clearing and scanning.
-pub mod Named
-pub mod Clearing
+-- Lemmas on scanning.
 pub mod Scanning
-pub mod Below

@@ -1,15 +1,13 @@
 // A draft of a rulebook.
-ghost use Rattle.std.specs.Prelude.{ℕ, ◌≤◌};
+use crate::lent::Filled;
+use tables::Owner;
 
 mod read;
 pub mod seal;
 
-// What has been read: the texts taken, and the counts of names, rules and entries. Their rows stand in the lent tables.
-#[derive(Drop)]
+// What has been read: whose text comes next, if any does, and how many rows of the lent tables count.
+#[derive(Debug, Drop)]
 pub struct Draft {
-    texts: u8,
-    names: usize,
-    rules: usize,
-    entries: usize,
-    ghost limits: { (texts ≤ 2) × (names ≤ 512) × (rules ≤ 2048) × (entries ≤ 8192) },
+    next: Option<Owner>,
+    filled: Filled,
 }

@@ -1,10 +1,11 @@
 // The names of statements, as parts of the two texts.
-ghost use Rattle.std.specs.Prelude.{◌≡◌, ℕ, ◌+◌, ◌<◌, ◌≤◌, length, take, IfSome};
+ghost use Rattle.std.specs.Prelude.{◌≡◌, ℕ, ◌<◌, length, take, IfSome};
 ghost use Rattle.tables.specs.Names.{same_name, name_of, statement_name, is_name, found};
 ghost use Rattle.text.specs.View.{bytes_of};
 
-use crate::texts::{TEXTS_MAX, Texts};
-use tables::NameRow;
+use crate::front::front;
+use crate::texts::Texts;
+use tables::{NameRow, Owner};
 
 // Whether the two names are the same.
 fn same_name(a: &[u8], b: &[u8]) -> bool
@@ -17,27 +18,16 @@ fn same_name(a: &[u8], b: &[u8]) -> bool
 fn part<'a>(row: NameRow, texts: Texts<'a>) -> Option<&'a [u8]>
     ensures { bytes_of result ≡ name_of row texts.entry.region.now texts.entry.harbour.now }
 {
-    let text = if row.text == 0 {
-        texts.region
-    } else {
-        texts.harbour
-    };
-    let first = row.first as usize;
-    let end = first + row.size as usize;
-    if row.text < TEXTS_MAX && row.size > 0 && end <= text.len() {
-        Some(&text[first..end])
-    } else {
-        None
-    }
+    let text = texts.of(Owner::try_from(row.text).ok()?);
+    let first = usize::from(row.first);
+    text.get(first..first + usize::from(row.size))
+        .filter(|name| !name.is_empty())
 }
 
 fn is_named(row: NameRow, texts: Texts, name: &[u8]) -> bool
     ensures { result ≡ is_name texts.entry.region.now texts.entry.harbour.now name.now row }
 {
-    match part(row, texts) {
-        Some(bytes) => same_name(bytes, name),
-        None => false,
-    }
+    part(row, texts).is_some_and(|bytes| same_name(bytes, name))
 }
 
 // The lowest row that has the name.
@@ -45,12 +35,7 @@ pub(crate) fn first_named(rows: &[NameRow], texts: Texts, name: &[u8]) -> Option
     ensures finds { result ≡ found texts.entry.region.now texts.entry.harbour.now name.now 0 rows.now }
     ensures below { IfSome result (λ n. n < length rows.now) }
 {
-    for (i, row) in rows.iter().enumerate() {
-        if is_named(*row, texts, name) {
-            return Some(i);
-        }
-    }
-    None
+    rows.iter().position(|row| is_named(*row, texts, name))
 }
 
 // The statement of that name among the first `count` rows: the lowest, or nothing.
@@ -58,11 +43,7 @@ pub fn find(name: &[u8], count: usize, rows: &[NameRow], texts: Texts) -> Option
     ensures finds { result ≡ found texts.entry.region.now texts.entry.harbour.now name.now 0 (take count rows.now) }
     ensures below { IfSome result (λ n. (n < count) × (n < length rows.now)) }
 {
-    if count < rows.len() {
-        first_named(&rows[0..count], texts, name)
-    } else {
-        first_named(rows, texts, name)
-    }
+    first_named(front(rows, count), texts, name)
 }
 
 // The name of a statement below `count`, as a part of the text that its row speaks of; or nothing.
@@ -74,9 +55,5 @@ pub fn name_of<'a>(
 ) -> Option<&'a [u8]>
     ensures { bytes_of result ≡ statement_name texts.entry.region.now texts.entry.harbour.now statement count rows.now }
 {
-    if statement < count && statement < rows.len() {
-        part(rows[statement], texts)
-    } else {
-        None
-    }
+    part(*front(rows, count).get(statement)?, texts)
 }

@@ -1,16 +1,34 @@
 // How far the reading of a text has come.
-ghost use Rattle.std.specs.Prelude.{ℕ, ◌≤◌};
+ghost use Rattle.std.specs.Prelude.{◌≤◌};
 
+use crate::lent::Filled;
 use tables::Phase;
 
-// What has been counted, and where reading stands in its rule: the rule's head, and the first entry of its run.
-#[derive(Clone, Copy)]
+// Where reading stands in its rule (the rule's head, and the first entry of its run), and what counts so far.
+#[derive(Clone, Copy, Debug, PartialEq, Eq)]
 pub struct Progress {
     pub phase: Phase,
-    pub head: u16,
+    pub head: Option<u16>,
     pub first: usize,
-    pub names: usize,
-    pub rules: usize,
-    pub entries: usize,
-    ghost limits: { (names ≤ 512) × (rules ≤ 2048) × (entries ≤ 8192) × (first ≤ entries) },
+    pub filled: Filled,
+    ghost run: { first ≤ filled.entries },
+}
+
+impl Progress {
+    ghost use Rattle.std.specs.Prelude.{◌≡◌};
+    ghost use Rattle.tables.specs.Draft.{stage_from};
+    ghost use Rattle.text.specs.View.{counted};
+    ghost use Rattle.text.specs.Stages.{stage_of};
+
+    // Before the first word.
+    pub(crate) fn new(filled: Filled) -> Self
+        ensures { stage_of result ≡ stage_from (counted 0 filled) }
+    {
+        Progress {
+            phase: Phase::Start,
+            head: None,
+            first: filled.entries,
+            filled,
+        }
+    }
 }

@@ -1,146 +1,124 @@
 // What one word does: the rules say which word may stand where, the draft writes its rows.
-ghost use Rattle.std.specs.Prelude.{◌≡◌, ℕ, ◌+◌, ◌<◌, ◌≤◌, List, length, IfSome};
-ghost use Rattle.words.specs.Words.{token_of, place_of, size_of};
-ghost use Rattle.tables.specs.Feed.{number_in, Tables, feed, numbered, headed, entered, entered_as, closed, at_phase, on, finished};
-ghost use Rattle.text.specs.View.{number_got, texts_of, fed, stage_of};
+ghost use Rattle.std.specs.Prelude.{◌≡◌, ℕ, ◌+◌, ◌<◌, ◌≤◌, length, IfOk};
+ghost use Rattle.words.specs.Words.{name as name_as, token_of, place_of, size_of};
+ghost use Rattle.tables.specs.Feed.{Tables as Rows, feed, numbered, headed, entered, entered_as, closed, finished};
+ghost use Rattle.text.specs.View.{texts_of, rows_of, IsSameLoan};
+ghost use Rattle.text.specs.Stages.{Onward, fed, fed_number, sign_number, stage_of};
 
+use crate::front::front;
+use crate::lent::{Tables, push};
+use crate::name::Name;
 use crate::names::first_named;
 use crate::progress::Progress;
-use crate::texts::Reading;
+use crate::texts::{Reading, TEXT_MAX};
+use rulebook::{ENTRIES_MAX, NAMES_MAX, RULES_MAX};
 use tables::{Cause, NameRow, Phase, RuleRow, Stop};
-use words::Word;
+use words::{Kind, NAME_MAX, Word};
 
-const NAMES_MAX: usize = 512;
-
-const RULES_MAX: usize = 2048;
-
-const ENTRIES_MAX: usize = 8192;
-// What the code of an entry has on top of twice its statement.
-const PLAIN: u16 = 0;
-
-const NEGATED: u16 = 1;
-
-// The number of a name and the count of names then, with a new row if the name has none.
-fn number(
-    count: usize,
-    bytes: &[u8],
-    at: usize,
-    reading: Reading,
-    names: &mut [NameRow],
-) -> Option<(u16, usize)>
-    requires { (count ≤ 512) × ((count ≤ length names.old) × ((at < 65536) × (length bytes.now ≤ 32))) }
-    ensures got { number_got result names.new ≡ number_in (texts_of reading.entry) bytes.now at count names.old }
-    ensures below { IfSome result (λ p. (p.0 < 512) × (p.1 ≤ 512) × (p.1 ≤ length names.new)) }
-{
-    if let Some(n) = first_named(&names[0..count], reading.texts, bytes) {
-        return Some((n as u16, count));
-    }
-    if count >= NAMES_MAX || count >= names.len() {
-        return None;
-    }
-    names[count] = NameRow {
-        text: reading.number,
-        first: at as u16,
-        size: bytes.len() as u16,
-    };
-    Some((count as u16, count + 1))
+// Whether an entry denies its statement: what its code has on top of twice the statement.
+#[derive(Clone, Copy, Debug, PartialEq, Eq)]
+enum Sign {
+    Plain = 0,
+    Negated = 1,
 }
 
 impl Progress {
-    // The head of the rule.
-    fn take_head(
-        &mut self,
-        bytes: &[u8],
-        at: usize,
-        reading: Reading,
-        names: &mut [NameRow],
-    ) -> Result<(), Stop>
-        requires { (self.old.names ≤ length names.old) × ((at < 65536) × (length bytes.now ≤ 32)) }
-        ensures says { (rules : List RuleRow) (entries : List ℕ) → fed result (stage_of self.new) (record { names = names.new; rules = rules; entries = entries }) ≡ numbered (texts_of reading.entry) bytes.now at headed (stage_of self.old) (record { names = names.old; rules = rules; entries = entries }) }
-        ensures room { self.new.names ≤ length names.new }
+    // The number of a name, with a new row if the name has none.
+    fn number(&mut self, name: Name, reading: Reading, tables: &mut Tables) -> Result<u16, Stop>
+        ensures says { (f : Onward) → fed_number result f (stage_of self.new) (rows_of tables.new) ≡ numbered (texts_of reading.entry) name.entry.bytes.now name.entry.at f (stage_of self.old) (rows_of tables.old) }
+        ensures below { IfOk result (λ n. n < NAMES_MAX) }
+        ensures same { IsSameLoan tables.old tables.new }
     {
-        let Some((n, count)) = number(self.names, bytes, at, reading, names) else {
-            return Err(Stop {
-                cause: Cause::NoNameRow,
-                at,
-            });
+        let names = &mut *tables.names;
+        let count = self.filled.names;
+        if let Some(n) = first_named(front(names, count), reading.texts, name.bytes) {
+            return Ok(n as u16);
+        }
+        let row = NameRow {
+            text: reading.owner.number(),
+            first: name.at as u16,
+            size: name.bytes.len() as u16,
         };
-        self.names = count;
-        self.head = n;
+        self.filled.names = push(names, count, NAMES_MAX, row).ok_or(Stop {
+            cause: Cause::NoNameRow,
+            at: name.at,
+        })?;
+        Ok(count as u16)
+    }
+
+    // The head of the rule.
+    fn take_head(&mut self, name: Name, reading: Reading, tables: &mut Tables) -> Result<(), Stop>
+        ensures says { fed result (stage_of self.new) (rows_of tables.new) ≡ numbered (texts_of reading.entry) name.entry.bytes.now name.entry.at headed (stage_of self.old) (rows_of tables.old) }
+        ensures same { IsSameLoan tables.old tables.new }
+    {
+        self.head = Some(self.number(name, reading, tables)?);
         self.phase = Phase::AfterHead;
         Ok(())
     }
 
     // One entry more.
-    fn push_entry(&mut self, code: u16, at: usize, entries: &mut [u16]) -> Result<(), Stop>
-        ensures says { (names : List NameRow) (rules : List RuleRow) → fed result (stage_of self.new) (record { names = names; rules = rules; entries = entries.new }) ≡ entered at code (stage_of self.old) (record { names = names; rules = rules; entries = entries.old }) }
-        ensures room { self.new.names ≡ self.old.names }
+    fn push_entry(&mut self, code: u16, at: usize, tables: &mut Tables) -> Result<(), Stop>
+        ensures says { fed result (stage_of self.new) (rows_of tables.new) ≡ entered at code (stage_of self.old) (rows_of tables.old) }
+        ensures same { IsSameLoan tables.old tables.new }
     {
-        if self.entries >= ENTRIES_MAX || self.entries >= entries.len() {
-            return Err(Stop {
-                cause: Cause::NoEntryRow,
-                at,
-            });
-        }
-        entries[self.entries] = code;
-        self.entries += 1;
+        let count = self.filled.entries;
+        self.filled.entries = push(tables.entries, count, ENTRIES_MAX, code).ok_or(Stop {
+            cause: Cause::NoEntryRow,
+            at,
+        })?;
         self.phase = Phase::AfterEntry;
         Ok(())
     }
 
-    // The entry of a name, plain or negated.
+    // The entry of a name.
     fn take_entry(
         &mut self,
-        sign: u16,
-        bytes: &[u8],
-        at: usize,
+        sign: Sign,
+        name: Name,
         reading: Reading,
-        names: &mut [NameRow],
-        entries: &mut [u16],
+        tables: &mut Tables,
     ) -> Result<(), Stop>
-        requires { (self.old.names ≤ length names.old) × ((at < 65536) × ((length bytes.now ≤ 32) × (sign ≤ 1))) }
-        ensures says { (rules : List RuleRow) → fed result (stage_of self.new) (record { names = names.new; rules = rules; entries = entries.new }) ≡ numbered (texts_of reading.entry) bytes.now at (entered_as at sign) (stage_of self.old) (record { names = names.old; rules = rules; entries = entries.old }) }
-        ensures room { self.new.names ≤ length names.new }
+        ensures says { fed result (stage_of self.new) (rows_of tables.new) ≡ numbered (texts_of reading.entry) name.entry.bytes.now name.entry.at (entered_as name.entry.at (sign_number sign)) (stage_of self.old) (rows_of tables.old) }
+        ensures same { IsSameLoan tables.old tables.new }
     {
-        let Some((n, count)) = number(self.names, bytes, at, reading, names) else {
-            return Err(Stop {
-                cause: Cause::NoNameRow,
-                at,
-            });
-        };
-        self.names = count;
-        self.push_entry(2 * n + sign, at, entries)
+        let n = self.number(name, reading, tables)?;
+        self.push_entry(2 * n + sign as u16, name.at, tables)
     }
 
     // The rule has ended: its own row.
-    fn close(&mut self, at: usize, rules: &mut [RuleRow]) -> Result<(), Stop>
-        ensures says { (names : List NameRow) (entries : List ℕ) → fed result (stage_of self.new) (record { names = names; rules = rules.new; entries = entries }) ≡ closed at (stage_of self.old) (record { names = names; rules = rules.old; entries = entries }) }
-        ensures room { self.new.names ≡ self.old.names }
+    fn close(&mut self, at: usize, tables: &mut Tables) -> Result<(), Stop>
+        ensures says { fed result (stage_of self.new) (rows_of tables.new) ≡ closed at (stage_of self.old) (rows_of tables.old) }
+        ensures same { IsSameLoan tables.old tables.new }
     {
-        if self.rules >= RULES_MAX || self.rules >= rules.len() {
-            return Err(Stop {
-                cause: Cause::NoRuleRow,
-                at,
-            });
-        }
-        rules[self.rules] = RuleRow {
-            head: self.head,
+        let row = RuleRow {
+            head: self.head.unwrap_or(RuleRow::NO_HEAD),
             first: self.first as u16,
-            count: (self.entries - self.first) as u16,
+            count: (self.filled.entries - self.first) as u16,
         };
-        self.rules += 1;
-        self.first = self.entries;
+        let count = self.filled.rules;
+        self.filled.rules = push(tables.rules, count, RULES_MAX, row).ok_or(Stop {
+            cause: Cause::NoRuleRow,
+            at,
+        })?;
+        self.first = self.filled.entries;
         self.phase = Phase::Start;
         Ok(())
     }
 
-    // Reading goes on in another phase, and nothing is written.
-    fn go_to(&mut self, phase: Phase) -> Result<(), Stop>
-        ensures says { (t : Tables) → fed result (stage_of self.new) t ≡ on (at_phase phase (stage_of self.old)) t }
-        ensures room { self.new.names ≡ self.old.names }
+    // A name, which is a head or an entry by where it stands.
+    fn take_name(&mut self, name: Name, reading: Reading, tables: &mut Tables) -> Result<(), Stop>
+        ensures says { fed result (stage_of self.new) (rows_of tables.new) ≡ feed (texts_of reading.entry) (name_as name.entry.bytes.now) name.entry.at (stage_of self.old) (rows_of tables.old) }
+        ensures same { IsSameLoan tables.old tables.new }
     {
-        self.phase = phase;
-        Ok(())
+        match self.phase {
+            Phase::Start => self.take_head(name, reading, tables),
+            Phase::WantEntry => self.take_entry(Sign::Plain, name, reading, tables),
+            Phase::WantName => self.take_entry(Sign::Negated, name, reading, tables),
+            Phase::AfterHead | Phase::AfterEntry => Err(Stop {
+                cause: Cause::OutOfPlace,
+                at: name.at,
+            }),
+        }
     }
 
     // One word.
@@ -148,48 +126,47 @@ impl Progress {
         &mut self,
         word: Word,
         reading: Reading,
-        names: &mut [NameRow],
-        rules: &mut [RuleRow],
-        entries: &mut [u16],
+        tables: &mut Tables,
     ) -> Result<(), Stop>
-        requires { (self.old.names ≤ length names.old) × ((place_of word < 65536) × (size_of (token_of word) ≤ 32)) }
-        ensures says { fed result (stage_of self.new) (record { names = names.new; rules = rules.new; entries = entries.new }) ≡ feed (texts_of reading.entry) (token_of word.entry) (place_of word.entry) (stage_of self.old) (record { names = names.old; rules = rules.old; entries = entries.old }) }
-        ensures room { self.new.names ≤ length names.new }
+        requires { (place_of word < TEXT_MAX) × (size_of (token_of word) ≤ NAME_MAX) }
+        ensures says { fed result (stage_of self.new) (rows_of tables.new) ≡ feed (texts_of reading.entry) (token_of word.entry) (place_of word.entry) (stage_of self.old) (rows_of tables.old) }
+        ensures same { IsSameLoan tables.old tables.new }
     {
-        match (self.phase, word) {
-            (Phase::Start, Word::Name { bytes, at }) => self.take_head(bytes, at, reading, names),
-            (Phase::Start, Word::Arrow { .. }) => {
-                self.head = RuleRow::NO_HEAD;
-                self.go_to(Phase::WantEntry)
+        let at = word.at;
+        match (self.phase, word.kind) {
+            (_, Kind::Name(bytes)) => self.take_name(Name { bytes, at }, reading, tables),
+            (Phase::Start, Kind::Arrow) => {
+                self.head = None;
+                self.phase = Phase::WantEntry;
+                Ok(())
             }
-            (Phase::AfterHead, Word::Arrow { .. }) | (Phase::AfterEntry, Word::Comma { .. }) =>
-                self.go_to(Phase::WantEntry),
-            (Phase::WantEntry, Word::Not { .. }) => self.go_to(Phase::WantName),
-            (Phase::WantEntry, Word::Name { bytes, at }) => self.take_entry(
-                PLAIN, bytes, at, reading, names, entries,
-            ),
-            (Phase::WantName, Word::Name { bytes, at }) => self.take_entry(
-                NEGATED, bytes, at, reading, names, entries,
-            ),
-            (Phase::AfterHead, Word::Point { at }) | (Phase::AfterEntry, Word::Point { at }) =>
-                self.close(at, rules),
-            (_, word) => Err(Stop {
+            (Phase::AfterHead, Kind::Arrow) | (Phase::AfterEntry, Kind::Comma) => {
+                self.phase = Phase::WantEntry;
+                Ok(())
+            }
+            (Phase::WantEntry, Kind::Not) => {
+                self.phase = Phase::WantName;
+                Ok(())
+            }
+            (Phase::AfterHead | Phase::AfterEntry, Kind::Point) => self.close(at, tables),
+            _ => Err(Stop {
                 cause: Cause::OutOfPlace,
-                at: word.at(),
+                at,
             }),
         }
     }
 
     // The end of the text: within a rule it may not come.
     pub(crate) fn finish(&self, at: usize) -> Result<(), Stop>
-        ensures { (t : Tables) → fed result (stage_of self.now) t ≡ finished at (stage_of self.now) t }
+        ensures { (t : Rows) → fed result (stage_of self.now) t ≡ finished at (stage_of self.now) t }
     {
-        match self.phase {
-            Phase::Start => Ok(()),
-            _ => Err(Stop {
+        if self.phase == Phase::Start {
+            Ok(())
+        } else {
+            Err(Stop {
                 cause: Cause::OutOfPlace,
                 at,
-            }),
+            })
         }
     }
 }

@@ -2,7 +2,7 @@
 use std::alloc::{AllocError, Global};
 use std::process::Abort;
 use std::test::*;
-use text::{Draft, Fault, NameRow, RuleRow};
+use text::{Cause, Draft, Fault, NameRow, Owner, RuleRow, Tables};
 
 // What the tables hold before anything is read: no row of a text looks like this.
 const MARK: u16 = 60000;
@@ -20,6 +20,9 @@ const RULE_MARK: RuleRow = RuleRow {
     first: MARK,
     count: MARK,
 };
+
+// How many texts were taken, and the counts of names, rules and entries.
+pub type Counts = (u8, usize, usize, usize);
 
 // A draft and tables for it, marked.
 #[derive(Drop)]
@@ -51,130 +54,106 @@ impl Desk {
     }
 
     pub fn region(&mut self, text: &[u8]) -> Result<(), Fault> {
-        self.draft.read(
-            text,
-            text,
-            &mut self.names,
-            &mut self.rules,
-            &mut self.entries,
-        )
+        self.harbour(text, text)
     }
 
     pub fn harbour(&mut self, text: &[u8], region: &[u8]) -> Result<(), Fault> {
-        self.draft.read(
-            text,
-            region,
-            &mut self.names,
-            &mut self.rules,
-            &mut self.entries,
-        )
+        let mut tables = Tables {
+            names: &mut self.names,
+            rules: &mut self.rules,
+            entries: &mut self.entries,
+        };
+        self.draft.read(text, region, &mut tables)
     }
 
-    // The draft's numbers.
-    pub fn counts(
-        &self,
-        rt: &impl Abort,
-        texts: u8,
-        names: usize,
-        rules: usize,
-        entries: usize,
-    ) -> Result<(), Fail> {
-        assert_eq!(rt; self.draft.texts(), texts);
-        assert_eq!(rt; self.draft.names(), names);
-        assert_eq!(rt; self.draft.rules(), rules);
-        assert_eq!(rt; self.draft.entries(), entries);
-        Ok(())
+    pub fn counts(&self) -> Counts {
+        let draft = &self.draft;
+        (draft.texts(), draft.names(), draft.rules(), draft.entries())
     }
 
-    // Every row from these on has these values, in all three tables.
-    fn hold(
-        &self,
-        rt: &impl Abort,
-        names: usize,
-        rules: usize,
-        entries: usize,
-        text: u8,
-        value: u16,
-    ) -> Result<(), Fail> {
-        for row in self.names.iter().skip(names) {
-            assert!(rt; row.text == text && row.first == value && row.size == value);
-        }
-        for row in self.rules.iter().skip(rules) {
-            assert!(rt; row.head == value && row.first == value && row.count == value);
-        }
-        for code in self.entries.iter().skip(entries) {
-            assert!(rt; *code == value);
-        }
-        Ok(())
+    pub fn name(&self, statement: usize) -> Option<NameRow> {
+        self.names.get(statement).copied()
+    }
+
+    // The head of a rule, its first entry and how many it has.
+    pub fn rule(&self, number: usize) -> Option<(u16, u16, u16)> {
+        self.rules.get(number).map(numbers)
+    }
+
+    // Every row from these on is this one.
+    fn holds(&self, from: Counts, name: NameRow, rule: RuleRow, entry: u16) -> bool {
+        let (_, names, rules, entries) = from;
+        let rule = numbers(&rule);
+        self.names.iter().skip(names).all(|row| *row == name)
+            && self
+                .rules
+                .iter()
+                .skip(rules)
+                .all(|row| numbers(row) == rule)
+            && self.entries.iter().skip(entries).all(|code| *code == entry)
     }
 
     // Every row past the counts is zero.
-    pub fn blank(&self, rt: &impl Abort) -> Result<(), Fail> {
-        let draft = &self.draft;
-        self.hold(rt, draft.names(), draft.rules(), draft.entries(), 0, 0)
+    pub fn is_blank(&self) -> bool {
+        self.holds(self.counts(), NameRow::EMPTY, RuleRow::EMPTY, 0)
     }
 
     // Every row past the counts is as it was lent.
-    pub fn untouched(&self, rt: &impl Abort) -> Result<(), Fail> {
-        let draft = &self.draft;
-        self.hold(
-            rt,
-            draft.names(),
-            draft.rules(),
-            draft.entries(),
-            TEXT_MARK,
-            MARK,
-        )
+    pub fn is_untouched(&self) -> bool {
+        self.holds(self.counts(), NAME_MARK, RULE_MARK, MARK)
     }
 
     // Every row at all is as it was lent.
-    pub fn unwritten(&self, rt: &impl Abort) -> Result<(), Fail> {
-        self.hold(rt, 0, 0, 0, TEXT_MARK, MARK)
+    pub fn is_unwritten(&self) -> bool {
+        self.holds((0, 0, 0, 0), NAME_MARK, RULE_MARK, MARK)
     }
 }
 
-// The text is refused with this number, at this place.
-pub fn refused(
-    rt: &impl Abort,
-    res: Result<(), Fault>,
-    number: u8,
-    text: u8,
-    byte: usize,
-    line: usize,
-) -> Result<(), Fail> {
-    match res {
-        Ok(()) => Err(Fail::new("no fault")),
-        Err(fault) => {
-            assert_eq!(rt; fault.cause.number(), number);
-            assert_eq!(rt; fault.text, text);
-            assert_eq!(rt; fault.byte, byte);
-            assert_eq!(rt; fault.line, line);
-            Ok(())
-        }
+fn numbers(row: &RuleRow) -> (u16, u16, u16) {
+    (row.head, row.first, row.count)
+}
+
+pub fn name_row(text: Owner, first: u16, size: u16) -> NameRow {
+    NameRow {
+        text: text.number(),
+        first,
+        size,
     }
 }
 
-// The text is read whole.
-pub fn accepted(res: Result<(), Fault>) -> Result<(), Fail> {
-    match res {
-        Ok(()) => Ok(()),
-        Err(fault) => Err(Fail::new(fault.cause.number())),
-    }
+// A fault of the region's text, and of the harbour's.
+pub fn region_fault(cause: Cause, byte: usize, line: usize) -> Result<(), Fault> {
+    Err(Fault {
+        cause,
+        text: Owner::Region,
+        byte,
+        line,
+    })
 }
 
-// A region's text is refused with this number, at this place; the draft stays empty and every row becomes zero.
+pub fn harbour_fault(cause: Cause, byte: usize, line: usize) -> Result<(), Fault> {
+    Err(Fault {
+        cause,
+        text: Owner::Harbour,
+        byte,
+        line,
+    })
+}
+
+// A region's text is refused for this cause, at this place; the draft stays empty and every row becomes zero.
 pub fn region_refused(
     rt: &impl Abort,
     heap: Global,
     text: &[u8],
-    number: u8,
+    cause: Cause,
     byte: usize,
     line: usize,
 ) -> Result<(), Fail> {
     let mut desk = Desk::new(heap, 8, 8, 8)?;
-    refused(rt, desk.region(text), number, 0, byte, line)?;
-    desk.counts(rt, 0, 0, 0, 0)?;
-    desk.blank(rt)
+    assert_eq!(rt; desk.region(text), region_fault(cause, byte, line));
+    assert_eq!(rt; desk.counts(), (0, 0, 0, 0));
+    assert!(rt; desk.is_blank());
+    Ok(())
 }
 
 // A region's text is read whole, with these counts of names, rules and entries; the other rows stay as they are.
@@ -187,9 +166,10 @@ pub fn region_counts(
     entries: usize,
 ) -> Result<(), Fail> {
     let mut desk = Desk::new(heap, 8, 8, 8)?;
-    accepted(desk.region(text))?;
-    desk.counts(rt, 1, names, rules, entries)?;
-    desk.untouched(rt)
+    assert_eq!(rt; desk.region(text), Ok(()));
+    assert_eq!(rt; desk.counts(), (1, names, rules, entries));
+    assert!(rt; desk.is_untouched());
+    Ok(())
 }
 
 // A unit, so many times.
@@ -208,37 +188,4 @@ pub fn facts(heap: Global, from: u16, to: u16) -> Result<Vec<u8>, AllocError> {
         text.extend_from_slice(format!(in heap; "n{k}.")?.as_bytes())?;
     }
     Ok(text)
-}
-
-// The row is this one.
-pub fn name_row(
-    rt: &impl Abort,
-    row: Option<&NameRow>,
-    text: u8,
-    first: u16,
-    size: u16,
-) -> Result<(), Fail> {
-    match row {
-        Some(r) => {
-            assert!(rt; r.text == text && r.first == first && r.size == size);
-            Ok(())
-        },
-        None => Err(Fail::new("no such row")),
-    }
-}
-
-pub fn rule_row(
-    rt: &impl Abort,
-    row: Option<&RuleRow>,
-    head: u16,
-    first: u16,
-    count: u16,
-) -> Result<(), Fail> {
-    match row {
-        Some(r) => {
-            assert!(rt; r.head == head && r.first == first && r.count == count);
-            Ok(())
-        },
-        None => Err(Fail::new("no such row")),
-    }
 }

@@ -1,6 +1,7 @@
 // The limits, each reached and passed by one, with tables that are longer.
 use crate::desk::*;
 use std::test::*;
+use text::{Cause, Owner};
 
 #[test]
 fn a_text_has_65536_bytes_at_most(rt: HostRuntime) -> Result<(), Fail> {
@@ -8,13 +9,17 @@ fn a_text_has_65536_bytes_at_most(rt: HostRuntime) -> Result<(), Fail> {
     let mut text = repeated(heap, b" ", 65534)?;
     text.extend_from_slice(b"a.")?;
     let mut desk = Desk::large(heap)?;
-    accepted(desk.region(&text))?;
-    desk.counts(&rt, 1, 1, 1, 0)?;
-    name_row(&rt, desk.names.get(0), 0, 65534, 1)?;
+    assert_eq!(rt; desk.region(&text), Ok(()));
+    assert_eq!(rt; desk.counts(), (1, 1, 1, 0));
+    assert_eq!(rt; desk.name(0), Some(name_row(Owner::Region, 65534, 1)));
     text.push(b' ')?;
-    refused(&rt, desk.harbour(&text, b""), 14, 1, 0, 1)?;
-    desk.counts(&rt, 1, 1, 1, 0)?;
-    desk.untouched(&rt)
+    assert_eq!(rt;
+        desk.harbour(&text, b""),
+        harbour_fault(Cause::LongText, 0, 1)
+    );
+    assert_eq!(rt; desk.counts(), (1, 1, 1, 0));
+    assert!(rt; desk.is_untouched());
+    Ok(())
 }
 
 #[test]
@@ -22,7 +27,7 @@ fn a_place_may_be_the_end_of_the_longest_text(rt: HostRuntime) -> Result<(), Fai
     let heap = rt.alloc();
     let mut text = repeated(heap, b"\n", 65535)?;
     text.push(b'a')?;
-    region_refused(&rt, heap, &text, 22, 65536, 65536)
+    region_refused(&rt, heap, &text, Cause::OutOfPlace, 65536, 65536)
 }
 
 #[test]
@@ -30,9 +35,10 @@ fn a_text_too_long_is_refused_unread(rt: HostRuntime) -> Result<(), Fail> {
     let heap = rt.alloc();
     let text = repeated(heap, b";", 65537)?;
     let mut desk = Desk::new(heap, 8, 8, 8)?;
-    refused(&rt, desk.region(&text), 14, 0, 0, 1)?;
-    desk.counts(&rt, 0, 0, 0, 0)?;
-    desk.untouched(&rt)
+    assert_eq!(rt; desk.region(&text), region_fault(Cause::LongText, 0, 1));
+    assert_eq!(rt; desk.counts(), (0, 0, 0, 0));
+    assert!(rt; desk.is_untouched());
+    Ok(())
 }
 
 #[test]
@@ -40,13 +46,17 @@ fn there_are_512_names_at_most_over_both_texts(rt: HostRuntime) -> Result<(), Fa
     let heap = rt.alloc();
     let region = facts(heap, 0, 300)?;
     let mut desk = Desk::large(heap)?;
-    accepted(desk.region(&region))?;
+    assert_eq!(rt; desk.region(&region), Ok(()));
     let mut harbour = facts(heap, 299, 512)?;
     let size = harbour.len();
     harbour.extend_from_slice(b"x.")?;
-    refused(&rt, desk.harbour(&harbour, &region), 23, 1, size, 1)?;
-    desk.counts(&rt, 1, 300, 300, 0)?;
-    desk.blank(&rt)
+    assert_eq!(rt;
+        desk.harbour(&harbour, &region),
+        harbour_fault(Cause::NoNameRow, size, 1)
+    );
+    assert_eq!(rt; desk.counts(), (1, 300, 300, 0));
+    assert!(rt; desk.is_blank());
+    Ok(())
 }
 
 #[test]
@@ -54,13 +64,14 @@ fn a_name_that_has_a_number_needs_no_row(rt: HostRuntime) -> Result<(), Fail> {
     let heap = rt.alloc();
     let region = facts(heap, 0, 300)?;
     let mut desk = Desk::large(heap)?;
-    accepted(desk.region(&region))?;
+    assert_eq!(rt; desk.region(&region), Ok(()));
     let mut harbour = facts(heap, 299, 512)?;
     harbour.extend_from_slice(b"n0 :- n511.")?;
-    accepted(desk.harbour(&harbour, &region))?;
-    desk.counts(&rt, 2, 512, 514, 1)?;
+    assert_eq!(rt; desk.harbour(&harbour, &region), Ok(()));
+    assert_eq!(rt; desk.counts(), (2, 512, 514, 1));
     assert_eq!(rt; desk.entries.get(0).copied(), Some(1022));
-    desk.untouched(&rt)
+    assert!(rt; desk.is_untouched());
+    Ok(())
 }
 
 #[test]
@@ -68,16 +79,13 @@ fn the_513th_name_of_one_text_is_refused(rt: HostRuntime) -> Result<(), Fail> {
     let heap = rt.alloc();
     let text = facts(heap, 0, 513)?;
     let mut desk = Desk::large(heap)?;
-    refused(
-        &rt,
+    assert_eq!(rt;
         desk.region(&text),
-        23,
-        0,
-        text.len().saturating_sub(5),
-        1,
-    )?;
-    desk.counts(&rt, 0, 0, 0, 0)?;
-    desk.blank(&rt)
+        region_fault(Cause::NoNameRow, text.len().saturating_sub(5), 1)
+    );
+    assert_eq!(rt; desk.counts(), (0, 0, 0, 0));
+    assert!(rt; desk.is_blank());
+    Ok(())
 }
 
 #[test]
@@ -85,14 +93,18 @@ fn there_are_2048_rules_at_most(rt: HostRuntime) -> Result<(), Fail> {
     let heap = rt.alloc();
     let mut text = repeated(heap, b"a.\n", 2048)?;
     let mut desk = Desk::large(heap)?;
-    accepted(desk.region(&text))?;
-    desk.counts(&rt, 1, 1, 2048, 0)?;
-    desk.untouched(&rt)?;
+    assert_eq!(rt; desk.region(&text), Ok(()));
+    assert_eq!(rt; desk.counts(), (1, 1, 2048, 0));
+    assert!(rt; desk.is_untouched());
     text.extend_from_slice(b"a .")?;
     let mut other = Desk::large(heap)?;
-    refused(&rt, other.region(&text), 25, 0, 6146, 2049)?;
-    other.counts(&rt, 0, 0, 0, 0)?;
-    other.blank(&rt)
+    assert_eq!(rt;
+        other.region(&text),
+        region_fault(Cause::NoRuleRow, 6146, 2049)
+    );
+    assert_eq!(rt; other.counts(), (0, 0, 0, 0));
+    assert!(rt; other.is_blank());
+    Ok(())
 }
 
 #[test]
@@ -100,12 +112,16 @@ fn there_are_8192_entries_at_most(rt: HostRuntime) -> Result<(), Fail> {
     let heap = rt.alloc();
     let region = repeated(heap, b"a:-a,a,a,a,a,a,a,a.", 1024)?;
     let mut desk = Desk::large(heap)?;
-    accepted(desk.region(&region))?;
-    desk.counts(&rt, 1, 1, 1024, 8192)?;
-    desk.untouched(&rt)?;
-    refused(&rt, desk.harbour(b"a. :-\nnot a.", &region), 24, 1, 10, 2)?;
-    desk.counts(&rt, 1, 1, 1024, 8192)?;
-    desk.blank(&rt)
+    assert_eq!(rt; desk.region(&region), Ok(()));
+    assert_eq!(rt; desk.counts(), (1, 1, 1024, 8192));
+    assert!(rt; desk.is_untouched());
+    assert_eq!(rt;
+        desk.harbour(b"a. :-\nnot a.", &region),
+        harbour_fault(Cause::NoEntryRow, 10, 2)
+    );
+    assert_eq!(rt; desk.counts(), (1, 1, 1024, 8192));
+    assert!(rt; desk.is_blank());
+    Ok(())
 }
 
 #[test]
@@ -115,7 +131,8 @@ fn one_rule_may_have_all_entries(rt: HostRuntime) -> Result<(), Fail> {
     text.extend_from_slice(&repeated(heap, b",a", 8191)?)?;
     text.push(b'.')?;
     let mut desk = Desk::large(heap)?;
-    accepted(desk.region(&text))?;
-    desk.counts(&rt, 1, 1, 1, 8192)?;
-    rule_row(&rt, desk.rules.get(0), 65535, 0, 8192)
+    assert_eq!(rt; desk.region(&text), Ok(()));
+    assert_eq!(rt; desk.counts(), (1, 1, 1, 8192));
+    assert_eq!(rt; desk.rule(0), Some((65535, 0, 8192)));
+    Ok(())
 }

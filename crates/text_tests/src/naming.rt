@@ -19,31 +19,26 @@ const fn row(text: u8, first: u16, size: u16) -> NameRow {
     NameRow { text, first, size }
 }
 
-// The row names these bytes.
-fn names(rt: &impl Abort, row: NameRow, name: &[u8]) -> Result<(), Fail> {
-    match name_of(0, 1, &[row], texts()) {
-        Some(bytes) => {
-            assert!(rt; bytes == name);
-            Ok(())
-        },
-        None => Err(Fail::new("no name")),
-    }
-}
-
 // The row names nothing, and so is not found.
 fn names_nothing(rt: &impl Abort, row: NameRow) -> Result<(), Fail> {
-    assert!(rt; name_of(0, 1, &[row], texts()).is_none());
-    assert!(rt; find(b"ab", 1, &[row], texts()).is_none());
-    assert!(rt; find(b"", 1, &[row], texts()).is_none());
+    assert_eq!(rt; name_of(0, 1, &[row], texts()), None);
+    assert_eq!(rt; find(b"ab", 1, &[row], texts()), None);
+    assert_eq!(rt; find(b"", 1, &[row], texts()), None);
     Ok(())
 }
 
 #[test]
 fn a_row_names_a_part_of_its_own_text(rt: HostRuntime) -> Result<(), Fail> {
-    names(&rt, row(0, 0, 2), b"ab")?;
-    names(&rt, row(1, 0, 2), b"cd")?;
-    names(&rt, row(0, 6, 2), b"ab")?;
-    names(&rt, row(1, 0, 4), b"cdab")
+    let cases = [
+        (row(0, 0, 2), b"ab".as_slice()),
+        (row(1, 0, 2), b"cd".as_slice()),
+        (row(0, 6, 2), b"ab".as_slice()),
+        (row(1, 0, 4), b"cdab".as_slice()),
+    ];
+    for (row, name) in cases {
+        assert_eq!(rt; name_of(0, 1, &[row], texts()), Some(name));
+    }
+    Ok(())
 }
 
 #[test]
@@ -78,9 +73,9 @@ fn rows_past_the_count_are_not_looked_at(rt: HostRuntime) -> Result<(), Fail> {
     assert_eq!(rt; find(b"ab", 2, &rows, texts()), Some(1));
     assert_eq!(rt; find(b"ab", 9, &rows, texts()), Some(1));
     assert_eq!(rt; find(b"ab", 0, &rows, texts()), None);
-    assert!(rt; name_of(1, 1, &rows, texts()).is_none());
-    assert!(rt; name_of(2, 9, &rows, texts()).is_none());
-    assert!(rt; name_of(1, 2, &rows, texts()).is_some());
+    assert_eq!(rt; name_of(1, 1, &rows, texts()), None);
+    assert_eq!(rt; name_of(2, 9, &rows, texts()), None);
+    assert_eq!(rt; name_of(1, 2, &rows, texts()), Some(b"ab".as_slice()));
     Ok(())
 }
 
@@ -90,19 +85,17 @@ fn what_was_read_is_found_and_named(rt: HostRuntime) -> Result<(), Fail> {
     let mut desk = Desk::new(rt.alloc(), 8, 8, 8)?;
     let region = b"a_in :- b1.";
     let harbour = b"b1 :- not b22.";
-    accepted(desk.region(region))?;
-    accepted(desk.harbour(harbour, region))?;
+    assert_eq!(rt; desk.region(region), Ok(()));
+    assert_eq!(rt; desk.harbour(harbour, region), Ok(()));
     let texts = Texts { region, harbour };
     let count = desk.draft.names();
     assert_eq!(rt; count, 3);
     assert_eq!(rt; find(b"b1", count, &desk.names, texts), Some(1));
     assert_eq!(rt; find(b"b22", count, &desk.names, texts), Some(2));
     assert_eq!(rt; find(b"b2", count, &desk.names, texts), None);
-    match name_of(2, count, &desk.names, texts) {
-        Some(name) => {
-            assert!(rt; name == b"b22".as_slice());
-            Ok(())
-        },
-        None => Err(Fail::new("no name")),
-    }
+    assert_eq!(rt;
+        name_of(2, count, &desk.names, texts),
+        Some(b"b22".as_slice())
+    );
+    Ok(())
 }

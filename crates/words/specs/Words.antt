@@ -3,9 +3,10 @@ use Rattle.std.specs.Prelude.{ℕ, ◌+◌, Bool, true, false, cond, not, ◌&&�
 use Rattle.std.specs.List.{prefix_len}
 use Rattle.std.specs.Str.{bytes_eq}
 use Rattle.words.specs.declared.Word.{Word}
-use Rattle.words.specs.declared.Word.TheVariants.{Name, Not, Arrow, Comma, Point}
+use Rattle.words.specs.declared.Kind.{Kind}
+use Rattle.words.specs.declared.Kind.TheVariants.{Name, Not, Arrow, Comma, Point}
 use Rattle.words.specs.declared.Fault.{Fault}
-use Rattle.words.specs.declared.Fault.TheVariants.{NoWord, LongName}
+use Rattle.words.specs.declared.FaultKind.TheVariants.{NoWord, LongName}
 
 -- A word by what it says: a name has its bytes.
 pub data Token : Type 0 where
@@ -15,21 +16,21 @@ pub data Token : Type 0 where
   comma : Token
   point : Token
 
+-- what a word's kind in the code says
+abbrev pub said : Kind → Token
+said (Name bytes) = name bytes.now
+said Not = negation
+said Arrow = arrow
+said Comma = comma
+said Point = point
+
 -- what a word of the code says
 abbrev pub token_of : Word → Token
-token_of (Name bytes at) = name bytes.now
-token_of (Not at) = negation
-token_of (Arrow at) = arrow
-token_of (Comma at) = comma
-token_of (Point at) = point
+token_of w = said w.kind
 
 -- where its first byte stands
 abbrev pub place_of : Word → ℕ
-place_of (Name bytes at) = at
-place_of (Not at) = at
-place_of (Arrow at) = at
-place_of (Comma at) = at
-place_of (Point at) = at
+place_of w = w.at
 
 -- how many bytes of a name a word has
 abbrev pub size_of : Token → ℕ
@@ -79,7 +80,7 @@ name_token bytes = cond (bytes_eq bytes (codes "not")) negation (name bytes)
 
 -- The name at the front of s, which begins at `at`: as long as possible, and at most 32 bytes.
 abbrev pub name_at : List ℕ → ℕ → Reading
-name_at s at = cond (nat_lt 32 (prefix_len is_name_byte s)) (fault (LongName at) at) (word (name_token (take (prefix_len is_name_byte s) s)) at (at + prefix_len is_name_byte s))
+name_at s at = cond (nat_lt 32 (prefix_len is_name_byte s)) (fault (record { kind = LongName; at = at }) at) (word (name_token (take (prefix_len is_name_byte s) s)) at (at + prefix_len is_name_byte s))
 
 -- A colon, and a hyphen directly after it.
 abbrev pub is_arrow : List ℕ → Bool
@@ -92,7 +93,7 @@ word_at (b ∷ s) at =
     cond (is_letter b) (name_at (b ∷ s) at)
     (cond (b == 44) (word comma at (at + 1))
     (cond (b == 46) (word point at (at + 1))
-    (cond (is_arrow (b ∷ s)) (word arrow at (at + 2)) (fault (NoWord at) at))))
+    (cond (is_arrow (b ∷ s)) (word arrow at (at + 2)) (fault (record { kind = NoWord; at = at }) at))))
 
 -- the next word of a text from a place on
 abbrev pub next_word : List ℕ → ℕ → Reading

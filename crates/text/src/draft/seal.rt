@@ -24,12 +24,12 @@ impl Draft {
     ) -> Result<(), Unsealed>
         ensures { Seals self rules.now entries.now place.old result place.new }
     {
-        match place.seal(self.names, self.rules, self.entries, rules, entries) {
-            Ok(()) => Ok(()),
-            Err(refusal) => Err(Unsealed {
+        let filled = self.filled;
+        place
+            .seal(filled.names, filled.rules, filled.entries, rules, entries)
+            .map_err(|refusal| Unsealed {
                 draft: self,
                 refusal,
-            }),
-        }
+            })
     }
 }
