@@ -75,7 +75,8 @@ impl<F: Source, S: Source> Pair<F, S> {
         }
     }
 
-    // Asks both sources with the pins of their halves and a group for each: the plans of both, joined, if both have one.
+    // Asks both sources with the pins of their halves and a group for each: their plans, joined in the first bytes, if
+    // both have one.
     fn ask_both(
         &self,
         pins: &[u8],
