@@ -2,7 +2,7 @@
 #![tactic(auto)]
 
 ghost use Rattle.std.specs.Prelude.{◌≡◌, ℕ, ◌+◌, ◌*◌, ◌<◌, ◌≤◌, List, [], length, ◌↔◌, IsTrue, IfOk, OnOk, OnErr};
-ghost use Rattle.source.specs.Plans.{Partial};
+ghost use Rattle.source.specs.Plans.{UpTo};
 ghost use Rattle.closing.specs.Turns.{Turn};
 ghost use Rattle.closing.specs.Sets.{holds, contrary, Codes};
 ghost use Rattle.clauses.specs.Clauses.{ClausesOk, RunsFit, clause_at, one_clause, clause_forces, ClausePlan};
@@ -122,8 +122,7 @@ impl<'a> ClauseList<'a> {
 
 // A clause with all entries but one contradicted forces that one.
 fn clause_turn(p: &mut [u8], clause: &[u16]) -> Turned
-    requires narrow { length p.old ≤ 512 }
-    requires partial { Partial (length p.old) p.old }
+    requires bytes { UpTo 2 p.old }
     requires codes { Codes (length p.old) clause.now }
     ensures { Turn (one_clause (length p.old) clause.now) 0 p.old p.new result }
 {
