@@ -3,7 +3,7 @@ use Rattle.std.proofs.Common.{◌≡◌, append_assoc, ℕ, ◌+◌, ◌-◌, �
 use Rattle.std.proofs.lemmas.List.{length-take, length-append, get_or-take, get_or_past, length-replicate, get_or-replicate, get_or_append_left, get_or-append_right, get_or-append-add, take-append-drop, take_at}
 use Rattle.std.proofs.lemmas.Bool.{cases_lt}
 use Rattle.source.specs.Plans.{Whole, Of, Agrees, Marks, FailsMarked, Meets, Serves}
-use Rattle.sources.specs.Joined.{Serving, BothServing, FoundBoth, JoiningServes, AskedBoth, AskedJoining}
+use Rattle.sources.specs.Joined.{Serving, BothServing, FoundBoth, JoiningServes, Posed, AskedBoth, AskedJoining}
 use Rattle.sources.specs.Shares.{Blank, Shared}
 use Rattle.sources.specs.declared.pair.Share.TheVariants.{First, Second, Either}
 
@@ -137,9 +137,9 @@ pub record Cut (a b : ℕ) (pins group fg sg : List ℕ) : Type 0 where
   pub parts : fg ++ sg ≡ group
 
 pub cut_made :
-    (a b : ℕ) (pins group fg sg : List ℕ) (cut : ℕ) → a + b ≤ 512 → length pins ≡ a + b → cut ≡ a → fg ≡ take cut group → sg ≡ drop cut group → length fg ≡ cut → Cut a b pins group fg sg
-cut_made a b pins group fg sg cut n l e f s m =
-    record { narrow = n; long = omega arith; first_long = m ∙ e; parts = rw (f, s) (take-append-drop cut group) }
+    (a b : ℕ) (pins group fg sg : List ℕ) (cut : ℕ) → Posed (a + b) pins group → cut ≡ a → fg ≡ take cut group → sg ≡ drop cut group → length fg ≡ cut → Cut a b pins group fg sg
+cut_made a b pins group fg sg cut p e f s m =
+    record { narrow = p.4; long = omega (arith, p.0); first_long = m ∙ e; parts = rw (f, s) (take-append-drop cut group) }
 
 -- plans found for the two halves make a plan of the pair
 pub found_joins :

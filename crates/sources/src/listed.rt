@@ -1,5 +1,5 @@
 // Plans that are listed, row after row, in lent memory.
-ghost use Rattle.std.specs.Prelude.{◌≡◌, ◌<◌, ◌↔◌, [], length, Decides, IfOk, IsOk, MatchOption};
+ghost use Rattle.std.specs.Prelude.{◌≡◌, ◌<◌, ◌↔◌, [], length, IfOk, IsOk, MatchOption};
 ghost use Rattle.source.specs.Plans.{Of};
 ghost use Rattle.source.specs.Asked.{Asked};
 ghost use Rattle.sources.specs.Rows.{Among, FirstServing, GivesFirst, Listable, Lending, NoneServing, row_at};
@@ -40,7 +40,11 @@ impl<'a> Listed<'a> {
         ensures listable { IsOk result ↔ Listable width count rows.now }
         ensures fields { IfOk result (λ s. (s.width ≡ width) × (s.count ≡ count) × (s.rows.now ≡ rows.now)) }
     {
-        if listable(width, count, rows) {
+        if width <= WIDTH_MAX
+            && count <= PLANS_MAX
+            && rows.len() == count * width
+            && rows.iter().all(|&byte| byte == HOLDS || byte == FAILS)
+        {
             Ok(Listed { width, count, rows })
         } else {
             Err(ListingRefusal::Malformed)
@@ -94,14 +98,4 @@ impl Source for Listed<'_> {
         place.copy_from_slice(self.row(i));
         Ok(Answer::Plan)
     }
-}
-
-// Whether the rows may be listed.
-fn listable(width: usize, count: usize, rows: &[u8]) -> bool
-    ensures { Decides result (Listable width count rows.now) }
-{
-    width <= WIDTH_MAX
-        && count <= PLANS_MAX
-        && rows.len() == count * width
-        && rows.iter().all(|&byte| byte == HOLDS || byte == FAILS)
 }

@@ -17,5 +17,4 @@ pub returns : goal.returns
 returns c =
     let s = c.args.self.now in
     let serves : ℕ → Type 0 = RowServes s.width s.rows.now c.args.question.pins.now c.args.question.group.now in
-    from_zero s.width s.count s.rows.now c.args.question.pins.now c.args.question.group.now c.find.result
-    (first_from_Range _ _ _ _ serves (λ i. serves i → ⊥) c.find.ensures.ran (λ i f h. search rules) (λ i f h. (search rules, search rules)))
+    from_zero _ _ _ _ _ c.find.result (first_from_Range _ _ _ _ serves (λ i. serves i → ⊥) c.find.ensures.ran (λ i f h. search rules) (λ i f h. (search rules, search rules)))
