@@ -6,7 +6,7 @@ ghost use Rattle.source.specs.Plans.{Partial};
 ghost use Rattle.narrow.specs.Meeting.{MeetingPlan, CanFail, SomeCanFail, MayMeet, narrowed, CutStands};
 ghost use Rattle.narrow.specs.Meetings.{meeting_lawful};
 
-use base::{Base, Outcome, check};
+use base::{Base, Outcome};
 use source::bytes::{FAILS, MARKED, UNDECIDED, fails_marked, marks_any};
 use source::{Refusal, WIDTH_MAX};
 
@@ -73,9 +73,11 @@ impl<'a, 'b, B: Base> Base for Meeting<'a, 'b, B> {
         self.base.width()
     }
 
-    // Extends a copy, so that a clash leaves the partial.
+    // Extends a copy, so that a clash leaves the partial; the base below refuses its bytes.
     fn extend(&self, partial: &mut [u8]) -> Result<Outcome, Refusal> {
-        check(self.base.width(), partial)?;
+        if partial.len() != self.base.width() {
+            return Err(Refusal::Length);
+        }
         let mut extended = [UNDECIDED; WIDTH_MAX];
         let extended = &mut extended[..partial.len()];
         extended.copy_from_slice(partial);

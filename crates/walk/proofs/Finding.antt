@@ -1,5 +1,5 @@
 -- From the tree's answer to that of a walk.
-use Rattle.std.proofs.Common.{◌≡◌, ◌≢◌, ℕ, suc, ◌≤◌, List, length, get_or, replicate, None, Option, Ok, sym, refl, ap, ◌∙◌, subst, arith}
+use Rattle.std.proofs.Common.{◌≡◌, ◌≢◌, ℕ, suc, ◌<◌, ◌≤◌, List, length, get_or, replicate, Ok, sym, refl, ap, ◌∙◌, subst, arith}
 use Rattle.std.proofs.lemmas.List.{get_or-replicate, length-replicate}
 use Rattle.source.specs.declared.Answer.{Answer}
 use Rattle.source.specs.declared.Answer.TheVariants.{Plan, Nothing}
@@ -8,20 +8,22 @@ use Rattle.base.specs.Laws.{Out, Lawful}
 use Rattle.first.specs.Tree.{tree, Below, Finds}
 use Rattle.first.proofs.Zeros.{unset_long}
 use Rattle.first.proofs.Firsts.{first_found}
-use Rattle.trail.specs.Walks.{Walk, Marked, mark_of}
+use Rattle.trail.specs.Walks.{Walk}
 use Rattle.walk.specs.declared.memory.Trail.{Trail}
 use Rattle.walk.specs.Turning.{Walks, Ran}
 use Rattle.walk.specs.Finding.{FirstOf}
 
--- a walk starts with nothing marked and no choice that waits
-pub start_walk : (w : ℕ) (t : Trail) (q : List ℕ) → w ≤ 512 → Partial w q → t.marks ≡ replicate 512 None → length t.choices ≡ 512 → t.level ≡ 0 → Walks w t q
-start_walk w t q hw p em lc ed = subst (λ d. Walk w d t.marks t.choices q) (sym ed) (record {
-  marks_long = omega (arith, ap length em, length-replicate {A = Option ℕ} 512 None);
-  choices_long = omega arith;
-  marked = λ k h. subst (λ m. Marked 0 m (get_or q k 0)) (sym (ap (λ ms. mark_of ms k) em ∙ get_or-replicate 512 k None None (omega arith))) tt;
-  chosen = λ i h. let z : ⊥ = omega arith in absurd z;
-  low = (p, omega (arith, unset_long q, p.0), tt);
-})
+-- a walk starts with no choice that waits
+pub start_walk : (w : ℕ) (t : Trail) (q : List ℕ) → w ≤ 512 → Partial w q → t.marks ≡ replicate 512 0 → length t.choices ≡ 512 → t.level ≡ 0 → Walks w t q
+start_walk w t q hw p em lc ed =
+    let zero_at : (k : ℕ) → k < w → get_or t.marks k 0 ≡ 0 = λ k h. ap (λ ms. get_or ms k 0) em ∙ get_or-replicate 512 k 0 0 (omega arith) in
+    subst (λ d. Walk w d t.marks t.choices q) (sym ed) (record {
+      marks_long = omega (arith, ap length em, length-replicate {A = ℕ} 512 0);
+      choices_long = omega arith;
+      marked = λ k h. (omega (arith, zero_at k h), λ _. zero_at k h);
+      chosen = λ i h. let z : ⊥ = omega arith in absurd z;
+      low = (p, omega (arith, unset_long q, p.0), tt);
+    })
 
 -- what a run found is the first plan below the pins, delivered if it is one
 module _ (w : ℕ) (plan : List ℕ → Type 0) (o : List ℕ → Out) (laws : Lawful w plan o) (pins : List ℕ) (p : Partial w pins) (q : List ℕ) (copied : q ≡ pins) (bs before : List ℕ) where

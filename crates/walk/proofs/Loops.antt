@@ -18,15 +18,5 @@ written_set z ys zs xs i v w h e = record {
   above = λ k le. get_or-set_other xs i k v z (omega arith) ∙ w.above k (omega arith);
 }
 
--- or it is right as it is
-pub written_same : {A : Type 0} (z : A) (ys zs xs : List A) (i : ℕ) → Written z ys zs i xs → get_or zs i z ≡ get_or ys i z → Written z ys zs (i + 1) xs
-written_same z ys zs xs i w e = record {
-  below = λ k lt. ⊎_elim
-      (λ y. ap (λ j. get_or xs j z) y ∙ w.above i (omega arith) ∙ e ∙ ap (λ j. get_or ys j z) (sym y))
-      (λ ne. w.below k (omega arith))
-      (cases_eq k i);
-  above = λ k le. w.above k (omega arith);
-}
-
 pub written_all : {A : Type 0} (z : A) (ys zs xs : List A) (i : ℕ) → Written z ys zs i xs → length xs ≡ length ys → ((k : ℕ) → i ≤ k → get_or zs k z ≡ get_or ys k z) → xs ≡ ys
 written_all z ys zs xs i w e past = ext_get_or z xs ys e (λ k lt. ⊎_elim (λ b. w.below k b) (λ a. w.above k a ∙ past k a) (cases_lt k i))

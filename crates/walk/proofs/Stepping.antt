@@ -1,5 +1,5 @@
 -- One step of the walk, from what its parts promise.
-use Rattle.std.proofs.Common.{◌≡◌, ℕ, zero, suc, ◌<◌, ◌≤◌, List, [], ◌∷◌, length, get_or, set, Some, Option, Ok, sym, refl, ap, ◌∙◌, subst, arith}
+use Rattle.std.proofs.Common.{◌≡◌, ℕ, zero, suc, ◌<◌, ◌≤◌, List, [], ◌∷◌, length, get_or, set, Some, Ok, sym, refl, ap, ◌∙◌, subst, arith}
 use Rattle.std.specs.declared.ops.ControlFlow.{ControlFlow}
 use Rattle.std.specs.declared.ops.ControlFlow.TheVariants.{Continue, Break}
 use Rattle.source.specs.declared.Answer.{Answer}
@@ -25,18 +25,18 @@ room w t q x h = omega (arith, x.low.1, waits_length t.level t.marks t.choices q
 
 -- a fork as its writes make it
 pub forked : (t : Trail) (r : List ℕ) → Walks (length r) t r → lowest r < length r
-    → (s d : ℕ) (ms : List (Option ℕ)) (cs q : List ℕ) → s ≡ lowest r → d ≡ suc t.level
-    → ms ≡ set (note_m t.level r t.marks) s (Some d) → cs ≡ set t.choices t.level s → q ≡ set r s 2
+    → (s d : ℕ) (ms cs q : List ℕ) → s ≡ lowest r → d ≡ suc t.level
+    → ms ≡ note_m d r t.marks → cs ≡ set t.choices t.level s → q ≡ set r s 2
     → Forks t r (record { marks = ms; choices = cs; level = d }) q
 forked t r x h s d ms cs q es ed em ec eq =
     subst (λ y. Forks t r (record { marks = y; choices = cs; level = d }) q) (sym em)
-    (subst (λ y. Forks t r (record { marks = set (note_m t.level r t.marks) s (Some d); choices = y; level = d }) q) (sym ec)
-    (subst (λ y. Forks t r (record { marks = set (note_m t.level r t.marks) s (Some d); choices = set t.choices t.level s; level = d }) y) (sym eq)
-    (subst (λ y. Forks t r (record { marks = set (note_m t.level r t.marks) y (Some d); choices = set t.choices t.level y; level = d }) (set r y 2)) (sym es)
-    (subst (λ y. Forks t r (record { marks = set (note_m t.level r t.marks) (lowest r) (Some y); choices = set t.choices t.level (lowest r); level = y }) (with r 2)) (sym ed)
+    (subst (λ y. Forks t r (record { marks = note_m d r t.marks; choices = y; level = d }) q) (sym ec)
+    (subst (λ y. Forks t r (record { marks = note_m d r t.marks; choices = set t.choices t.level s; level = d }) y) (sym eq)
+    (subst (λ y. Forks t r (record { marks = note_m d r t.marks; choices = set t.choices t.level y; level = d }) (set r y 2)) (sym es)
+    (subst (λ y. Forks t r (record { marks = note_m y r t.marks; choices = set t.choices t.level (lowest r); level = y }) (with r 2)) (sym ed)
     (go (unset r) refl)))))
   where
-    go : (n : ℕ) → unset r ≡ n → Forks t r (record { marks = set (note_m t.level r t.marks) (lowest r) (Some (suc t.level)); choices = set t.choices t.level (lowest r); level = suc t.level }) (with r 2)
+    go : (n : ℕ) → unset r ≡ n → Forks t r (record { marks = note_m (suc t.level) r t.marks; choices = set t.choices t.level (lowest r); level = suc t.level }) (with r 2)
     go zero z = let k : ⊥ = omega (arith, low_some r h) in absurd k
     go (suc m) z = (
       split_walk (length r) t.level t.marks t.choices r m z x,
@@ -45,20 +45,20 @@ forked t r x h s d ms cs q es ed em ec eq =
 
 -- a step back as its writes make it
 pub backed : (t : Trail) (r : List ℕ) → Walks (length r) t r
-    → (s d : ℕ) (ms : List (Option ℕ)) (q : List ℕ) → suc d ≡ t.level → s ≡ get_or t.choices d 0
-    → ms ≡ set (keep_m t.level r t.marks) s (Some d) → q ≡ set (keep_b t.level t.marks r) s 1
+    → (s d : ℕ) (ms q : List ℕ) → suc d ≡ t.level → s ≡ get_or t.choices d 0
+    → ms ≡ keep_m d r t.marks → q ≡ set (keep_b d t.marks r) s 1
     → Backs t r (Continue tt) (record { marks = ms; choices = t.choices; level = d }) q
 backed t r x s d ms q ed es em eq =
     subst (λ y. Backs t r (Continue tt) (record { marks = y; choices = t.choices; level = d }) q) (sym em)
-    (subst (λ y. Backs t r (Continue tt) (record { marks = set (keep_m t.level r t.marks) s (Some d); choices = t.choices; level = d }) y) (sym eq)
-    (subst (λ y. Backs t r (Continue tt) (record { marks = set (keep_m t.level r t.marks) y (Some d); choices = t.choices; level = d }) (set (keep_b t.level t.marks r) y 1)) (sym es)
+    (subst (λ y. Backs t r (Continue tt) (record { marks = keep_m d r t.marks; choices = t.choices; level = d }) y) (sym eq)
+    (subst (λ y. Backs t r (Continue tt) (record { marks = keep_m d r t.marks; choices = t.choices; level = d }) (set (keep_b d t.marks r) y 1)) (sym es)
     (subst (λ y. Walk (length r) y t.marks t.choices r
-    → Walk (length r) d (set (keep_m y r t.marks) (get_or t.choices d 0) (Some d)) t.choices (set (keep_b y t.marks r) (get_or t.choices d 0) 1)
-    × (waits y t.marks t.choices r ≡ set (keep_b y t.marks r) (get_or t.choices d 0) 1
-    ∷ waits d (set (keep_m y r t.marks) (get_or t.choices d 0) (Some d)) t.choices (set (keep_b y t.marks r) (get_or t.choices d 0) 1))) ed
+    → Walk (length r) d (keep_m d r t.marks) t.choices (set (keep_b d t.marks r) (get_or t.choices d 0) 1)
+    × (waits y t.marks t.choices r ≡ set (keep_b d t.marks r) (get_or t.choices d 0) 1
+    ∷ waits d (keep_m d r t.marks) t.choices (set (keep_b d t.marks r) (get_or t.choices d 0) 1))) ed
     (λ z. (
       back_walk (length r) d t.marks t.choices r z,
-      ap (λ y. set (keep_b (suc d) t.marks r) (get_or t.choices d 0) 1 ∷ y) (back_waits (length r) d t.marks t.choices r z),
+      ap (λ y. set (keep_b d t.marks r) (get_or t.choices d 0) 1 ∷ y) (back_waits (length r) d t.marks t.choices r z),
     )) x)))
 
 -- with no choice that waits, none is left

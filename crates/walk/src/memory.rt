@@ -1,6 +1,6 @@
 // The memory of a walk: what was decided when, and the choices that wait for "holds".
-ghost use Rattle.std.specs.Prelude.{◌≡◌, ◌≤◌, None, length, replicate};
-ghost use Rattle.trail.specs.Walks.{stands, keep_b, keep_m, note_m};
+ghost use Rattle.std.specs.Prelude.{◌≡◌, ◌≤◌, length, replicate};
+ghost use Rattle.trail.specs.Walks.{keep_b, keep_m, note_one, note_m};
 
 use source::bytes::{FAILS, HOLDS, UNDECIDED};
 use source::{Answer, WIDTH_MAX};
@@ -9,8 +9,8 @@ use std::ops::ControlFlow;
 // What a walk keeps beside its partial.
 #[derive(Drop)]
 pub struct Trail {
-    // how many choices waited when a statement was decided; an undecided one has no mark
-    pub marks: [Option<u16>; WIDTH_MAX],
+    // for each statement how many choices waited when it was decided, or wait now if it is undecided
+    pub marks: [u16; WIDTH_MAX],
     // the statements that were chosen to fail, the latest last
     // Stays: the library has no heap, so the stack is an array with its height beside it.
     pub choices: [u16; WIDTH_MAX],
@@ -20,13 +20,13 @@ pub struct Trail {
 impl Trail {
     ghost use Rattle.walk.specs.Turning.{Lowest, Walks, Forks, Backs};
 
-    // Nothing is marked, and no choice waits.
+    // No choice waits.
     pub fn new() -> Trail
-        ensures marks { result.marks ≡ replicate 512 None }
+        ensures marks { result.marks ≡ replicate 512 0 }
         ensures level { result.level ≡ 0 }
     {
         Trail {
-            marks: [None; WIDTH_MAX],
+            marks: [0; WIDTH_MAX],
             choices: [0; WIDTH_MAX],
             level: 0,
         }
@@ -38,10 +38,9 @@ impl Trail {
         requires at { Lowest partial.old s }
         ensures { Forks self.old partial.old self.new partial.new }
     {
-        note(partial, &mut self.marks, self.level);
         self.choices[usize::from(self.level)] = s as u16;
         self.level += 1;
-        self.marks[s] = Some(self.level);
+        note(partial, &mut self.marks, self.level);
         partial[s] = FAILS;
     }
 
@@ -53,44 +52,41 @@ impl Trail {
         if self.level == 0 {
             return ControlFlow::Break(Answer::Nothing);
         }
-        wipe(partial, &mut self.marks, self.level);
         self.level -= 1;
+        wipe(partial, &mut self.marks, self.level);
         let s = usize::from(self.choices[usize::from(self.level)]);
-        self.marks[s] = Some(self.level);
         partial[s] = HOLDS;
         ControlFlow::Continue(())
     }
 }
 
-// Whether what has the mark stays when all from the level on is taken back.
-fn stands(mark: Option<u16>, level: u16) -> bool
-    ensures { result ≡ stands level mark }
-{
-    mark.is_some_and(|at| at < level)
-}
-
-// Takes back what was decided at the level or above.
-fn wipe(partial: &mut [u8], marks: &mut [Option<u16>], level: u16)
+// Takes back what was decided above the level.
+// Stays: the marks are read by index, since of what a zip writes a proof knows nothing afterwards.
+fn wipe(partial: &mut [u8], marks: &mut [u16], level: u16)
     requires { length partial.old ≤ length marks.old }
     ensures bytes { partial.new ≡ keep_b level marks.old partial.old }
     ensures marks { marks.new ≡ keep_m level partial.old marks.old }
 {
     for (i, byte) in partial.iter_mut().enumerate() {
-        if !stands(marks[i], level) {
-            *byte = UNDECIDED;
-            marks[i] = None;
-        }
+        *byte = if marks[i] > level { UNDECIDED } else { *byte };
+        marks[i] = marks[i].min(level);
     }
 }
 
-// Marks what is newly decided with the level.
-fn note(partial: &[u8], marks: &mut [Option<u16>], level: u16)
+// The mark of a statement with the byte, when the level is new; written without a branch, so the loop is fast.
+fn noted(mark: u16, byte: u8, level: u16) -> u16
+    ensures { result ≡ note_one level byte mark }
+{
+    if byte == UNDECIDED { level } else { mark }
+}
+
+// Marks what is undecided with the level.
+// Stays: the marks are read by index, as in wipe.
+fn note(partial: &[u8], marks: &mut [u16], level: u16)
     requires { length partial.now ≤ length marks.old }
     ensures { marks.new ≡ note_m level partial.now marks.old }
 {
     for (i, &byte) in partial.iter().enumerate() {
-        if byte != UNDECIDED {
-            marks[i] = marks[i].or(Some(level));
-        }
+        marks[i] = noted(marks[i], byte, level);
     }
 }

@@ -1,4 +1,4 @@
-use Rattle.std.proofs.Common.{◌+◌, Some, set, refl, ap, arith}
+use Rattle.std.proofs.Common.{◌+◌, set, refl, ap, arith}
 use Rattle.walk.proofs.Looking.{lowest_is, lowest_within}
 use Rattle.walk.proofs.Stepping.{room, forked}
 use Rattle.walk.proofs.memory.Trail.fork.Goals as goal
@@ -16,4 +16,4 @@ pub returns : goal.returns
 returns c =
     let t = c.args.self.now in
     forked t c.args.partial.now c.requires.walks (lowest_within _ c.args.s c.requires.at) c.args.s (t.level + 1) _ _ _ (lowest_is _ c.args.s c.requires.at) (omega arith)
-    (ap (λ ms. set ms c.args.s (Some (t.level + 1))) c.note.ensures) (ap (λ d. set t.choices d c.args.s) c.from.ensures) refl
+    c.note.ensures (ap (λ d. set t.choices d c.args.s) c.from.ensures) refl
