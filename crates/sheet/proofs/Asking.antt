@@ -1,18 +1,9 @@
 -- A question asked with parts of longer tables.
-use Rattle.std.proofs.Common.{◌≡◌, ℕ, ◌<◌, ◌≤◌, Bool, true, false, List, ◌++◌, length, take, MatchBool, MatchOption, sym, subst, arith}
-use Rattle.std.proofs.lemmas.List.{length-take, get_or-take, take_at}
+use Rattle.std.proofs.Common.{◌≡◌, ℕ, Bool, true, false, List, ◌++◌, length, take, MatchBool, MatchOption, sym, subst}
+use Rattle.std.proofs.lemmas.List.{take_at}
 use Rattle.std.specs.Bool.{then_some}
-use Rattle.source.specs.Plans.{UpTo, Serves}
+use Rattle.source.specs.Plans.{Serves}
 use Rattle.sheet.specs.Asks.{Served, Unserved, Found, NotFound}
-
-pub up_to_take : (n w : ℕ) (xs : List ℕ) → UpTo n xs → w ≤ length xs → UpTo n (take w xs)
-up_to_take n w xs u h k l =
-    let e : length (take w xs) ≡ w = simp length-take (omega arith) in
-    let l' : k < w = omega arith in
-    rw get_or-take (u k (omega arith))
-
-pub length_cut : (w u : ℕ) (xs : List ℕ) → u ≡ w → w ≤ length xs → length (take u xs) ≡ w
-length_cut w u xs e h = simp length-take (omega arith)
 
 -- the answer for parts of longer tables
 pub found

@@ -15,7 +15,6 @@ use Rattle.uses.specs.declared.Way.TheVariants.{Holds, Fails}
 use Rattle.uses.specs.Way.{way_number}
 use Rattle.uses.proofs.Law
 use Rattle.uses.proofs.Law.{bit_one, bit_none, stable_false, has_mark}
-use Rattle.table.specs.declared.line.Line.{Line}
 use Rattle.uses.specs.declared.Tally.{Tally}
 use Rattle.table.specs.declared.table.Table.{Table}
 use Rattle.table.specs.Blank.{line_at}
@@ -265,14 +264,6 @@ module _ (w : ℕ) (plan : List ℕ → Type 0) (t : Table) (name : List ℕ) (s
               lows j.0 ∙ ap (λ c. cond c 1 0) (Law.has_from (is_open (view w t) j.0) (ltb (counted (view w t) Open j.0) l) j.2 (lt-ltb (counted (view w t) Open j.0) l (omega arith))),
               (let i : j.0 < width_of t.over = j.1 in omega arith),
             )
-
--- marks are 0 and 1
-pub lowest_few : (rows : List Line) (l : ℕ) (ms : List ℕ) → ((k : ℕ) → get_or ms k 0 ≡ cond (lowest_of rows l k) 1 0) → UpTo 1 ms
-lowest_few rows l ms e k h = subst (λ x. x ≤ 1) (sym (e k)) (bit (lowest_of rows l k))
-  where
-    bit : (b : Bool) → cond b 1 0 ≤ 1
-    bit true = omega arith
-    bit false = omega arith
 
 -- pin
 module _ (w : ℕ) (plan : List ℕ → Type 0) (t : Table) (s way : ℕ) where
