@@ -1,7 +1,7 @@
 -- From what the check of a call finds to what the call does: refused by the first row that applies, or taken.
 use Rattle.std.proofs.Common.{◌≡◌, ℕ, zero, suc, ◌+◌, ◌<◌, ◌≤◌, Bool, true, false, cond, eqb, ltb, ◌⊎◌, List, [], Some, length, get_or, take, replicate, IsErrAnd, Ok, Err, codes, Result, sym, refl, ap, ◌∙◌, subst, inl, inr, ⊎_elim, arith, lt-ltb}
 use borrow.Author.Tests.{both_ways}
-use Rattle.std.proofs.lemmas.Bool.{cases_lt, cases_eq}
+use Rattle.std.proofs.lemmas.Bool.{cases_lt, cases_eq, false_from_ne_true}
 use Rattle.source.specs.Plans.{UpTo, AgreesAt, Marks}
 use Rattle.uses.specs.declared.SheetRefusal.{SheetRefusal}
 use Rattle.uses.specs.declared.SheetRefusal.TheVariants.{Length, Value, Mark, Wide, Unbegun, Begun, NoneOpen, Group, Name, Statement, Pinned, NoPlan, Candidate}
@@ -14,7 +14,7 @@ use Rattle.uses.specs.declared.Way.{Way}
 use Rattle.uses.specs.declared.Way.TheVariants.{Holds, Fails}
 use Rattle.uses.specs.Way.{way_number}
 use Rattle.uses.proofs.Law
-use Rattle.uses.proofs.Law.{bit_one, bit_none, stable_false, has_mark}
+use Rattle.uses.proofs.Law.{bit_one, bit_none, has_mark}
 use Rattle.uses.specs.declared.Tally.{Tally}
 use Rattle.table.specs.declared.table.Table.{Table}
 use Rattle.table.specs.Blank.{line_at}
@@ -117,7 +117,7 @@ module _ (w : ℕ) (plan : List ℕ → Type 0) (t : Table) (c : List ℕ) where
 -- how many are open
 none_counted : (f : ℕ → Bool) (n : ℕ) → ((k : ℕ) → f k ≡ true → ⊥) → counted_by f n ≡ 0
 none_counted f zero h = refl
-none_counted f (suc n) h = let e = none_counted f n h in let b = bit_none (f n) (stable_false (f n) (h n)) in omega arith
+none_counted f (suc n) h = let e = none_counted f n h in let b = bit_none (f n) (false_from_ne_true (f n) (h n)) in omega arith
 
 counted_none : (f : ℕ → Bool) (n : ℕ) → counted_by f n ≡ 0 → (k : ℕ) → k < n → f k ≡ true → ⊥
 counted_none f zero e k l t = omega arith
