@@ -1,7 +1,7 @@
 // The checks of a sheet's calls, before its source is asked: of all rows that refuse a call, the first wins.
 #![tactic(auto)]
 
-ghost use Rattle.std.specs.Prelude.{◌≡◌, ◌<◌, ◌≤◌, true, false, length, Ok, Err, MatchResult};
+ghost use Rattle.std.specs.Prelude.{◌≡◌, true, false, MatchResult};
 ghost use Rattle.uses.specs.declared.SheetRefusal.TheVariants.{Unbegun};
 ghost use Rattle.checks.specs.View.{view};
 ghost use Rattle.checks.specs.Checks.{IsMarks, HasLine, MayBegin, MaySettle, MaySettleBy, MayPin, MayTell, MayTally};
@@ -51,7 +51,8 @@ impl Checks<'_> {
         ensures { HasLine self.now.width self.now.table.now statement result }
     {
         self.begun()?;
-        self.table.lines.rows[..self.table.width()]
+        self.table
+            .rows()
             .get(statement)
             .copied()
             .ok_or(SheetRefusal::Statement)

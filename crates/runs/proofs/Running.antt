@@ -1,7 +1,7 @@
 -- A list of calls.
 use Rattle.std.proofs.Common.{Result, ◌≡◌, ℕ, zero, suc, ◌+◌, ◌<◌, ◌≤◌, ◌⊎◌, List, [], ◌∷◌, ◌++◌, reverse, length, min, get_or, take, drop, set, sym, refl, ap, ◌∙◌, subst, inl, inr, ⊎_elim, add-one, arith}
 use Rattle.std.proofs.lemmas.Bool.{cases_lt}
-use Rattle.std.proofs.lemmas.List.{reverse-append, length-set, get_or-take, take_all}
+use Rattle.std.proofs.lemmas.List.{drop-set-lt, reverse-append, length-set, get_or-take, take_all}
 use Rattle.source.specs.Plans.{Whole}
 use Rattle.uses.specs.Model.{State, Fresh}
 use Rattle.uses.specs.Step.{Step}
@@ -72,11 +72,6 @@ number cs rs n h =
     h.2
 
 -- the places past the replies
-drop_set : (rs : List (Result Reply SheetRefusal)) (i : ℕ) (r : Result Reply SheetRefusal) → drop (suc i) (set rs i r) ≡ drop (suc i) rs
-drop_set [] i r = refl
-drop_set (x ∷ rs) zero r = refl
-drop_set (x ∷ rs) (suc i) r = drop_set rs i r
-
 drop_suc : (rs : List (Result Reply SheetRefusal)) (i : ℕ) → drop (suc i) rs ≡ drop 1 (drop i rs)
 drop_suc rs zero = refl
 drop_suc [] (suc i) = refl
@@ -84,7 +79,7 @@ drop_suc (x ∷ rs) (suc i) = drop_suc rs i
 
 drop_more : (rs old : List (Result Reply SheetRefusal)) (i : ℕ) (r : Result Reply SheetRefusal) → drop i rs ≡ drop i old → drop (i + 1) (set rs i r) ≡ drop (i + 1) old
 drop_more rs old i r e =
-    ap (λ n. drop n (set rs i r)) (add-one i) ∙ drop_set rs i r ∙ drop_suc rs i ∙ ap (drop 1) e ∙ sym (drop_suc old i) ∙ sym (ap (λ n. drop n old) (add-one i))
+    ap (λ n. drop n (set rs i r)) (add-one i) ∙ drop-set-lt (suc i) rs i r (omega arith) ∙ drop_suc rs i ∙ ap (drop 1) e ∙ sym (drop_suc old i) ∙ sym (ap (λ n. drop n old) (add-one i))
 
 -- what holds after i calls
 pub record Sofar (w : ℕ) (plan : List ℕ → Type 0) (calls : List Call) (before now : List (Result Reply SheetRefusal)) (i : ℕ) (m : State) : Type 0 where

@@ -36,6 +36,7 @@ pub fn run<S: Source>(
 {
     let mut sheet = Sheet::new(source);
     let made = calls.len().min(replies.len());
+    // Stays: by index, since nothing is known of what is written through `iter_mut` under a `zip`.
     for (i, call) in calls[..made].iter().enumerate() {
         replies[i] = put(&mut sheet, call);
     }

@@ -40,7 +40,3 @@ module _ (w : ℕ) (plan : List ℕ → Type 0) (cs marks place : List ℕ) (fit
           (λ (h : k < w). ap (λ x. cond (eqb (get_or cs k 0) 1) (cond (eqb x 2) 2 0) 0) (sym (get_or-take w place k 0 h)))
           (λ (h : w ≤ k). let z : get_or cs k 0 ≡ 0 = get_or_past cs k 0 (omega arith) in rw z refl)
           (cases_lt k w)
-
--- no mark stands past the width
-pub marks_past : (w : ℕ) (cs marks : List ℕ) → length cs ≡ w → ((k : ℕ) → get_or marks k 0 ≡ get_or cs k 0) → (k : ℕ) → w ≤ k → get_or marks k 0 ≡ 0
-marks_past w cs marks e f k h = f k ∙ get_or_past cs k 0 (omega arith)

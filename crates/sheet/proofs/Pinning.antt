@@ -1,8 +1,8 @@
 -- What a pin does to the sheet.
-use Rattle.std.proofs.Common.{◌≡◌, ℕ, ◌<◌, ◌≤◌, Bool, true, false, cond, eqb, List, Option, Some, None, get_or, take, replicate, sym, refl, ap, ◌∙◌, subst, ⊎_elim, arith, ne_eqb}
+use Rattle.std.proofs.Common.{◌≡◌, ℕ, ◌<◌, ◌≤◌, Bool, true, false, cond, eqb, List, Option, get_or, take, replicate, sym, refl, ap, ◌∙◌, ⊎_elim, arith, ne_eqb}
 use Rattle.std.proofs.lemmas.Bool.{cases_lt, cases_eq}
 use Rattle.std.proofs.lemmas.List.{get_or-take}
-use Rattle.source.specs.Plans.{UpTo, AgreesAt}
+use Rattle.source.specs.Plans.{AgreesAt}
 use Rattle.uses.specs.declared.Word.TheVariants.{Open, Certain, Loose}
 use Rattle.uses.specs.Model.{word_number, pin, done}
 use Rattle.uses.specs.Step.{pinned_at, after_pin, Effect, pins}
@@ -16,7 +16,6 @@ use Rattle.sheet.proofs.Settling.{number_if, to_view, from_view, pin_inside}
 use Rattle.std.specs.Bool.{then_some}
 use Rattle.std.specs.Option.{option_or}
 use Rattle.uses.specs.declared.Way.{Way}
-use Rattle.uses.specs.declared.Way.TheVariants.{Holds, Fails}
 use Rattle.uses.specs.Way.{way_number, pin_number}
 use Rattle.table.proofs.Zeros.{zeros_meet}
 
@@ -25,14 +24,6 @@ numbers true b c = refl
 numbers false true c = refl
 numbers false false true = refl
 numbers false false false = refl
-
-way_few : (v : Way) → way_number v ≤ 2
-way_few Holds = omega arith
-way_few Fails = omega arith
-
-pub pin_few : (pin : Option Way) → pin_number pin ≤ 2
-pin_few None = omega arith
-pin_few (Some v) = way_few v
 
 -- the pin of a line after a pin that was kept, as a number
 pin_then : (b : Bool) (v : Way) (old : Option Way) → pin_number (option_or (then_some b v) old) ≡ cond b (way_number v) (pin_number old)
@@ -51,13 +42,6 @@ module _ (w : ℕ) (t : Table) (s : ℕ) (v : Way) (wide : width_of t.over ≡ w
       (λ (e : k ≡ s). omega arith)
       (λ (ne : k ≡ s → ⊥). pin_inside w t wide k (λ z. h (ap (λ b. cond b (way_number v) ((view w t).pin k)) (ne_eqb k s ne) ∙ z)))
       (cases_eq k s)
-
-  pub pinned_few : (ps : List ℕ) → ((k : ℕ) → get_or ps k 0 ≡ pinned_at (view w t).pin s (way_number v) k) → UpTo 2 ps
-  pinned_few ps e k h = subst (λ x. x ≤ 2) (sym (e k)) (bound (eqb k s))
-    where
-      bound : (b : Bool) → cond b (way_number v) ((view w t).pin k) ≤ 2
-      bound true = way_few v
-      bound false = pin_few (line_at t.lines.rows k).pin
 
   module _ (plan : List ℕ → Type 0) (ps place : List ℕ) (n : ℕ) (same : (k : ℕ) → get_or ps k 0 ≡ pinned_at (view w t).pin s (way_number v) k) where
     pub none_agrees

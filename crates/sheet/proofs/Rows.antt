@@ -1,7 +1,7 @@
 -- From what the check of a call finds to what the call does: refused by the first row that applies, or taken.
 use Rattle.std.proofs.Common.{◌≡◌, ℕ, zero, suc, ◌+◌, ◌<◌, ◌≤◌, Bool, true, false, cond, eqb, ltb, ◌⊎◌, List, [], Some, length, get_or, take, replicate, IsErrAnd, Ok, Err, codes, Result, sym, refl, ap, ◌∙◌, subst, inl, inr, ⊎_elim, arith, lt-ltb}
 use borrow.Author.Tests.{both_ways}
-use Rattle.std.proofs.lemmas.Bool.{cases_lt, cases_eq}
+use Rattle.std.proofs.lemmas.Bool.{cases_lt, cases_eq, false_from_ne_true}
 use Rattle.source.specs.Plans.{UpTo, AgreesAt, Marks}
 use Rattle.uses.specs.declared.SheetRefusal.{SheetRefusal}
 use Rattle.uses.specs.declared.SheetRefusal.TheVariants.{Length, Value, Mark, Wide, Unbegun, Begun, NoneOpen, Group, Name, Statement, Pinned, NoPlan, Candidate}
@@ -14,8 +14,7 @@ use Rattle.uses.specs.declared.Way.{Way}
 use Rattle.uses.specs.declared.Way.TheVariants.{Holds, Fails}
 use Rattle.uses.specs.Way.{way_number}
 use Rattle.uses.proofs.Law
-use Rattle.uses.proofs.Law.{bit_one, bit_none, stable_false, has_mark}
-use Rattle.table.specs.declared.line.Line.{Line}
+use Rattle.uses.proofs.Law.{bit_one, bit_none, has_mark}
 use Rattle.uses.specs.declared.Tally.{Tally}
 use Rattle.table.specs.declared.table.Table.{Table}
 use Rattle.table.specs.Blank.{line_at}
@@ -118,7 +117,7 @@ module _ (w : ℕ) (plan : List ℕ → Type 0) (t : Table) (c : List ℕ) where
 -- how many are open
 none_counted : (f : ℕ → Bool) (n : ℕ) → ((k : ℕ) → f k ≡ true → ⊥) → counted_by f n ≡ 0
 none_counted f zero h = refl
-none_counted f (suc n) h = let e = none_counted f n h in let b = bit_none (f n) (stable_false (f n) (h n)) in omega arith
+none_counted f (suc n) h = let e = none_counted f n h in let b = bit_none (f n) (false_from_ne_true (f n) (h n)) in omega arith
 
 counted_none : (f : ℕ → Bool) (n : ℕ) → counted_by f n ≡ 0 → (k : ℕ) → k < n → f k ≡ true → ⊥
 counted_none f zero e k l t = omega arith
@@ -265,14 +264,6 @@ module _ (w : ℕ) (plan : List ℕ → Type 0) (t : Table) (name : List ℕ) (s
               lows j.0 ∙ ap (λ c. cond c 1 0) (Law.has_from (is_open (view w t) j.0) (ltb (counted (view w t) Open j.0) l) j.2 (lt-ltb (counted (view w t) Open j.0) l (omega arith))),
               (let i : j.0 < width_of t.over = j.1 in omega arith),
             )
-
--- marks are 0 and 1
-pub lowest_few : (rows : List Line) (l : ℕ) (ms : List ℕ) → ((k : ℕ) → get_or ms k 0 ≡ cond (lowest_of rows l k) 1 0) → UpTo 1 ms
-lowest_few rows l ms e k h = subst (λ x. x ≤ 1) (sym (e k)) (bit (lowest_of rows l k))
-  where
-    bit : (b : Bool) → cond b 1 0 ≤ 1
-    bit true = omega arith
-    bit false = omega arith
 
 -- pin
 module _ (w : ℕ) (plan : List ℕ → Type 0) (t : Table) (s way : ℕ) where

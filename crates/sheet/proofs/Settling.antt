@@ -1,8 +1,8 @@
 -- What a settling does to the sheet.
-use Rattle.std.proofs.Common.{◌≡◌, ℕ, ◌+◌, ◌-◌, ◌<◌, ◌≤◌, Bool, true, false, cond, eqb, List, length, get_or, take, Option, Some, None, MatchOption, sym, refl, ap, ◌∙◌, subst, ⊎_elim, arith, eq-eqb, eqb-true}
+use Rattle.std.proofs.Common.{◌≡◌, ℕ, ◌+◌, ◌-◌, ◌<◌, ◌≤◌, Bool, true, false, cond, eqb, List, length, get_or, take, Option, Some, None, MatchOption, sym, refl, ap, ◌∙◌, ⊎_elim, arith, eq-eqb, eqb-true}
 use Rattle.std.proofs.lemmas.Bool.{cases_lt}
 use Rattle.std.proofs.lemmas.List.{get_or_past, get_or-take, length-take}
-use Rattle.source.specs.Plans.{UpTo, Whole, AgreesAt}
+use Rattle.source.specs.Plans.{Whole, AgreesAt}
 use Rattle.table.specs.declared.line.Line.{Line}
 use Rattle.uses.specs.declared.Word.{Word}
 use Rattle.uses.specs.declared.Word.TheVariants.{Open, Certain, Loose}
@@ -162,23 +162,3 @@ pub settles_by_lem
 settles_by_lem w plan m n f g e (none x y) =
     none (λ p q a k h. x p q a k (e k ∙ h)) (λ k. y k ∙ ap (λ b. cond b 1 (m.word k)) (e k))
 settles_by_lem w plan m n f g e (some p q a k h i y) = some p q a k (sym (e k) ∙ h) i y
-
--- a group in a longer table
-pub widened_few : (b : ℕ) (g ms : List ℕ) → UpTo b g → ((k : ℕ) → get_or ms k 0 ≡ get_or g k 0) → UpTo b ms
-widened_few b g ms u e k h =
-    ⊎_elim
-    (λ (l : k < length g). subst (λ x. x ≤ b) (sym (e k)) (u k l))
-    (λ (l : length g ≤ k). let z = get_or_past g k 0 l in let y = e k in omega arith)
-    (cases_lt k (length g))
-
-pub widened_some
-    : (w : ℕ) (g ms : List ℕ) → length g ≡ w → ((k : ℕ) → get_or ms k 0 ≡ get_or g k 0) → ((k : ℕ) × (get_or g k 0 ≡ 1))
-    → (k : ℕ) × (get_or ms k 0 ≡ 1) × (k < w)
-widened_some w g ms l e s = (
-  s.0,
-  e s.0 ∙ s.1,
-  ⊎_elim
-      (λ (h : s.0 < w). h)
-      (λ (h : w ≤ s.0). let z = get_or_past g s.0 0 (omega arith) in let y = s.1 in absurd (omega arith))
-      (cases_lt s.0 w),
-)

@@ -1,4 +1,5 @@
 // The lines of a sheet, each changed in place.
+// Stays: the lent bytes are read by index, since nothing is known of what is written through `iter_mut` under a `zip`.
 ghost use Rattle.std.specs.Prelude.{◌≡◌, ℕ, ◌<◌, ◌≤◌, true, false, length, MatchBool, ◌==◌, slice_index};
 ghost use Rattle.std.specs.Bool.{then_some};
 ghost use Rattle.uses.specs.Way.{pin_number};

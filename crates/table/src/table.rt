@@ -1,14 +1,13 @@
 // The table of a sheet: its lines, with what they keep from the begin on.
-ghost use Rattle.std.specs.Prelude.{◌≡◌, ℕ, ◌<◌, ◌≤◌, false, cond, length, if◌then◌else◌, MatchBool, ◌==◌, ◌≢◌, nat_lt, slice_index};
-ghost use Rattle.uses.specs.Model.{counted_by};
+ghost use Rattle.std.specs.Prelude.{◌≡◌, ℕ, ◌<◌, ◌≤◌, false, cond, take, if◌then◌else◌, MatchBool, ◌==◌, ◌≢◌, nat_lt, slice_index};
 ghost use Rattle.uses.specs.Step.{pinned_at};
 ghost use Rattle.std.specs.Bool.{then_some};
 ghost use Rattle.uses.specs.Way.{way_number, pin_number};
 ghost use Rattle.uses.specs.declared.Word.TheVariants.{Open, Certain, Loose};
 ghost use Rattle.table.specs.Blank.{blank, line_at, Unmarked, Unpinned};
-ghost use Rattle.table.specs.Lineup.{width_of, begun_over, line_has, begun_line, byte_in, settled_line, pinned_line, lowest_of};
+ghost use Rattle.table.specs.Lineup.{width_of, begun_over, begun_line, byte_in, settled_line, pinned_line, lowest_of};
 
-use crate::line::LINES;
+use crate::line::{LINES, Line};
 use crate::lines::Lines;
 use source::bytes::MARKED;
 use uses::{Tally, Way, Word};
@@ -31,6 +30,8 @@ fn lowest_mark(is_open: bool, n: usize, limit: usize) -> u8
 }
 
 impl Table {
+    ghost use Rattle.table.specs.Count.{count_of};
+
     pub fn new() -> Self
         ensures over { result.over ≡ None }
         ensures lines { (k : ℕ) → line_at result.lines.rows k ≡ blank }
@@ -48,6 +49,13 @@ impl Table {
         self.over.unwrap_or(0)
     }
 
+    // The lines of the statements over which it was begun.
+    pub fn rows(&self) -> &[Line]
+        ensures { result.now ≡ take (width_of self.now.over) self.now.lines.rows }
+    {
+        &self.lines.rows[..self.width()]
+    }
+
     // Whether it was begun over that width.
     pub fn is_begun(&self, width: usize) -> bool
         ensures { result ≡ begun_over self.now.over width }
@@ -57,25 +65,22 @@ impl Table {
 
     // How many candidates have that word.
     pub fn count(&self, word: Word) -> usize
-        ensures { result ≡ counted_by (λ k. line_has word (line_at self.now.lines.rows k)) (width_of self.now.over) }
+        ensures { result ≡ count_of word self.now }
     {
-        self.lines.rows[..self.width()]
-            .iter()
-            .filter(|line| line.has(word))
-            .count()
+        self.rows().iter().filter(|line| line.has(word)).count()
     }
 
     // Whether no candidate is open.
     pub fn none_open(&self) -> bool
-        ensures { MatchBool result (counted_by (λ k. line_has Open (line_at self.now.lines.rows k)) (width_of self.now.over) ≡ 0) (counted_by (λ k. line_has Open (line_at self.now.lines.rows k)) (width_of self.now.over) ≢ 0) }
+        ensures { MatchBool result (count_of Open self.now ≡ 0) (count_of Open self.now ≢ 0) }
     {
         self.count(Word::Open) == 0
     }
 
     pub fn tally(&self) -> Tally
-        ensures still_open { result.open ≡ counted_by (λ k. line_has Open (line_at self.now.lines.rows k)) (width_of self.now.over) }
-        ensures certain { result.certain ≡ counted_by (λ k. line_has Certain (line_at self.now.lines.rows k)) (width_of self.now.over) }
-        ensures loose { result.loose ≡ counted_by (λ k. line_has Loose (line_at self.now.lines.rows k)) (width_of self.now.over) }
+        ensures still_open { result.open ≡ count_of Open self.now }
+        ensures certain { result.certain ≡ count_of Certain self.now }
+        ensures loose { result.loose ≡ count_of Loose self.now }
     {
         Tally {
             open: self.count(Word::Open),
@@ -88,9 +93,10 @@ impl Table {
     pub fn lowest(&self, limit: usize) -> [u8; LINES]
         ensures { (k : ℕ) → slice_index result k ≡ (if lowest_of self.now.lines.rows limit k then 1 else 0) }
     {
+        // Stays: by index, since nothing is known of what is written through `iter_mut` under a `zip`.
         let mut marks = [0; LINES];
         let mut n = 0;
-        for (i, line) in self.lines.rows[..self.width()].iter().enumerate() {
+        for (i, line) in self.rows().iter().enumerate() {
             let open = line.has(Word::Open);
             marks[i] = lowest_mark(open, n, limit);
             n += usize::from(open);

@@ -1,7 +1,7 @@
 -- The law of whole uses of a sheet.
 use Rattle.std.proofs.Common.{◌≡◌, ℕ, zero, suc, ◌<◌, ◌≤◌, Bool, true, false, cond, eqb, ltb, ◌⊎◌, List, [], ◌∷◌, ◌++◌, length, get_or, codes, sym, refl, ap, ◌∙◌, subst, inl, inr, ⊎_elim, arith, lt-ltb, eq-eqb, ne_eqb, eqb-true}
 use borrow.Author.Tests.{both_ways}
-use Rattle.std.proofs.lemmas.Bool.{cases_Bool, cases_eq, cases_lt}
+use Rattle.std.proofs.lemmas.Bool.{cases_Bool, cases_eq, cases_lt, true_from_ne_false, false_from_ne_true}
 use Rattle.std.proofs.lemmas.Bool.Decides.{nat_tests as tests}
 use Rattle.std.proofs.lemmas.List.{get_or_past}
 use Rattle.source.specs.Plans.{Whole, AgreesAt}
@@ -17,14 +17,6 @@ use Rattle.uses.specs.Use.{Event, event, pins_by, candidates_by, begun_by, no_pi
 -- numbers and tests
 stable : (a b : ℕ) → ((a ≡ b → ⊥) → ⊥) → a ≡ b
 stable a b f = ⊎_elim (λ e. e) (λ n. absurd (f n)) (cases_eq a b)
-
-stable_true : (b : Bool) → (b ≡ false → ⊥) → b ≡ true
-stable_true true f = refl
-stable_true false f = absurd (f refl)
-
-pub stable_false : (b : Bool) → (b ≡ true → ⊥) → b ≡ false
-stable_false true f = absurd (f refl)
-stable_false false f = refl
 
 begin_few : (b d : Bool) → cond b (cond d 2 0) 0 ≤ 2
 begin_few b d = grind arith
@@ -88,7 +80,7 @@ pub first_open : (m : State) (n : ℕ) → (counted m Open n ≡ 0 → ⊥) → 
 first_open m zero h = absurd (h refl)
 first_open m (suc n) h =
     ⊎_elim
-    (λ (e : counted m Open n ≡ 0). (n, omega arith, stable_true (is_open m n) (λ f. h (let b = bit_none (is_open m n) f in omega arith)), e))
+    (λ (e : counted m Open n ≡ 0). (n, omega arith, true_from_ne_false (is_open m n) (λ f. h (let b = bit_none (is_open m n) f in omega arith)), e))
     (λ (f : counted m Open n ≡ 0 → ⊥). let o = first_open m n f in (o.0, (let l : o.0 < n = o.1 in omega arith), o.2, o.3))
     (cases_eq (counted m Open n) 0)
 
@@ -139,7 +131,7 @@ module _ (w : ℕ) (plan : List ℕ → Type 0) where
   tell_word (taken clear tells) = refl
 
   tell_mark : {m n : State} {k v : ℕ} → Step w plan m (tell k) (told v) n → m.mark k ≡ true
-  tell_mark {m} {k = k} (taken clear e) = stable_true (m.mark k) (λ f. clear Candidate (tell_other f))
+  tell_mark {m} {k = k} (taken clear e) = true_from_ne_false (m.mark k) (λ f. clear Candidate (tell_other f))
 
   tell_clear : {m : State} {k : ℕ} → m.begun ≡ true → k < w → m.mark k ≡ true → (e : SheetRefusal) → Cause w plan m (tell k) e → ⊥
   tell_clear {m} {k} b l t _ (tell_unbegun f) = both_ways m.begun f b
@@ -345,14 +337,14 @@ module _ (w : ℕ) (plan : List ℕ → Type 0) where
     step_good i (taken clear (settles {g = g} x y t)) = settle_good (λ k. eqb (get_or g k 0) 1) i y x
     step_good {m} i (taken clear (settles_by l d x y t)) = settle_good (lowest m l) i y x
     step_good {m} i (taken clear (pins {s = s} {way = way} p q a b mk pn wd)) =
-        pin_good s way i (stable_true m.begun (λ f. clear Unbegun (pin_unbegun f))) (stable (m.pin s) 0 (λ f. clear Pinned (pin_again f))) p q a b mk pn wd
+        pin_good s way i (true_from_ne_false m.begun (λ f. clear Unbegun (pin_unbegun f))) (stable (m.pin s) 0 (λ f. clear Pinned (pin_again f))) p q a b mk pn wd
     step_good i (taken clear tells) = i
     step_good i (taken clear tallies) = i
 
     step_ties : {es : List Event} {m n : State} {c : Call} {r : Reply} → Good m → Ties es m → Step w plan m c r n → Ties (event c r ∷ es) n
     step_ties i t (sent x) = record { begun = t.begun; mark = t.mark; pin = t.pin }
     step_ties {es} {m} i t (taken clear (begins p q b mk pn wd)) =
-        record { begun = b; mark = mk; pin = λ k. pn k ∙ sym (i.unpinned (stable_false m.begun (λ f. clear Begun (begin_begun f))) k) ∙ t.pin k }
+        record { begun = b; mark = mk; pin = λ k. pn k ∙ sym (i.unpinned (false_from_ne_true m.begun (λ f. clear Begun (begin_begun f))) k) ∙ t.pin k }
     step_ties i t (taken clear (settles x y e)) =
         record { begun = y.begun ∙ t.begun; mark = λ k. y.mark k ∙ t.mark k; pin = λ k. y.pin k ∙ t.pin k }
     step_ties i t (taken clear (settles_by l d x y e)) =
@@ -385,7 +377,7 @@ module _ (w : ℕ) (plan : List ℕ → Type 0) where
     has_told {es} {m} i t v k a e =
         record {
           candidate = sym (t.mark k) ∙ a;
-          answer = tell_step (stable_true m.begun (λ f. both_ways (m.mark k) (i.unmarked f k) a)) (i.inside k a) a e;
+          answer = tell_step (true_from_ne_false m.begun (λ f. both_ways (m.mark k) (i.unmarked f k) a)) (i.inside k a) a e;
         }
 
     -- certain stays certain
@@ -394,7 +386,7 @@ module _ (w : ℕ) (plan : List ℕ → Type 0) where
         → m.mark k ≡ true → m.word k ≡ 1 → (n.mark k ≡ true) × (n.word k ≡ 1)
     keep_certain i k (sent x) t e = (t, e)
     keep_certain {m} i k (taken clear (begins p q b mk pn wd)) t e =
-        absurd (both_ways (m.mark k) (i.unmarked (stable_false m.begun (λ f. clear Begun (begin_begun f))) k) t)
+        absurd (both_ways (m.mark k) (i.unmarked (false_from_ne_true m.begun (λ f. clear Begun (begin_begun f))) k) t)
     keep_certain {m} i k (taken clear (settles {g = g} x y z)) t e = (y.mark k ∙ t, settle_keeps (λ k. eqb (get_or g k 0) 1) k x e)
     keep_certain {m} i k (taken clear (settles_by l d x y z)) t e = (y.mark k ∙ t, settle_keeps (lowest m l) k x e)
     keep_certain {m} i k (taken clear (pins {s = s} {way = way} p q a b mk pn wd)) t e =
@@ -404,14 +396,14 @@ module _ (w : ℕ) (plan : List ℕ → Type 0) where
 
     -- loose stays loose where no pin is accepted
     inside_open : {m : State} {g : List ℕ} → ((e : SheetRefusal) → Cause w plan m (settle g) e → ⊥) → (k : ℕ) → eqb (get_or g k 0) 1 ≡ true → is_open m k ≡ true
-    inside_open {m} {g} clear k t = stable_true (is_open m k) (λ f. clear Group (settle_other k (eqb-true (get_or g k 0) 1 t) f))
+    inside_open {m} {g} clear k t = true_from_ne_false (is_open m k) (λ f. clear Group (settle_other k (eqb-true (get_or g k 0) 1 t) f))
 
     keep_loose
         : {m n : State} {c : Call} {r : Reply} (es : List Event) → Good m → (k : ℕ) → Step w plan m c r n → no_pin (event c r ∷ es) ≡ true
         → m.mark k ≡ true → m.word k ≡ 2 → (n.mark k ≡ true) × (n.word k ≡ 2)
     keep_loose es i k (sent x) h t e = (t, e)
     keep_loose {m} es i k (taken clear (begins p q b mk pn wd)) h t e =
-        absurd (both_ways (m.mark k) (i.unmarked (stable_false m.begun (λ f. clear Begun (begin_begun f))) k) t)
+        absurd (both_ways (m.mark k) (i.unmarked (false_from_ne_true m.begun (λ f. clear Begun (begin_begun f))) k) t)
     keep_loose {m} es i k (taken clear (settles {g = g} x y z)) h t e =
         (y.mark k ∙ t, settle_leaves (λ k. eqb (get_or g k 0) 1) (inside_open {g = g} clear) k x e)
     keep_loose {m} es i k (taken clear (settles_by l d x y z)) h t e =
@@ -491,7 +483,7 @@ module _ (w : ℕ) (plan : List ℕ → Type 0) where
     -- a settling lowers the number of open candidates
     closes
         : {m n : State} → Rest w plan m n → (k : ℕ) → (n.word k ≡ 0 → ⊥) → is_open n k ≡ false
-    closes {m} {n} r k h = stable_false (is_open n k) (λ o. h (eqb-true (n.word k) 0 (has_test (n.mark k) (eqb (n.word k) 0) o)))
+    closes {m} {n} r k h = false_from_ne_true (is_open n k) (λ o. h (eqb-true (n.word k) 0 (has_test (n.mark k) (eqb (n.word k) 0) o)))
 
     pub settle_shrinks
         : {m n : State} (g : ℕ → Bool) → Rest w plan m n → Settles w plan m g n

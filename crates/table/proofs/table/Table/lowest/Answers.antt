@@ -1,8 +1,8 @@
-use Rattle.std.proofs.Common.{rules, ◌≡◌, cond, ap, ◌∙◌, refl, arith}
+use Rattle.std.proofs.Common.{rules, ◌≡◌, ◌<◌, List, length, cond, ap, ◌∙◌, refl, arith}
 use Rattle.std.proofs.lemmas.List.{get_or-take, length-take}
 use Rattle.table.specs.declared.line.Line.{Line}
 use Rattle.table.specs.Blank.{blank, line_at}
-use Rattle.table.specs.Lineup.{line_has}
+use Rattle.table.specs.Lineup.{width_of, line_has}
 use Rattle.table.proofs.Counting.{count_more, lowest_more}
 use Rattle.table.proofs.Zeros.{zeros_all}
 use Rattle.uses.specs.declared.Word.TheVariants.{Open}
@@ -13,8 +13,10 @@ loop-i-init c = (omega arith, refl, refl, (λ k h. absurd (omega arith)), λ k h
 
 pub loop-i-preserved : goal.loop-i-preserved
 loop-i-preserved c =
+    let e = c.rows-line-items.ensures in
+    let h : c.loop-i.i < width_of c.args.self.now.over = omega (arith, length-take {A = Line}, ap (λ (ls : List Line). length ls) e) in
     let is : c.has-open.result ≡ line_has Open (line_at c.args.self.now.lines.rows c.loop-i.i) =
-    c.has-open.ensures ∙ ap (line_has Open) (get_or-take c.width.result c.args.self.now.lines.rows c.loop-i.i blank (omega (arith, length-take {A = Line}))) in
+    c.has-open.ensures ∙ ap (λ ls. line_has Open (line_at ls c.loop-i.i)) e ∙ ap (line_has Open) (get_or-take (width_of c.args.self.now.over) c.args.self.now.lines.rows c.loop-i.i blank h) in
     let r : c.from-n.result ≡ cond c.has-open.result 1 0 = search rules in
     let n =
     count_more (λ k. line_has Open (line_at c.args.self.now.lines.rows k)) _ _ _ _ c.loop-i.invariant.0 c.loop-i.invariant.1 is r in
