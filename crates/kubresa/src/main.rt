@@ -73,6 +73,7 @@ fn listing(
     let mut out = format!(in heap;
         "statements {count} rules {rules} entries {entries}\n"
     )?.into_bytes();
+    // Stays: the statement's number is asked for and printed.
     for i in 0..count {
         if let Some(name) = name_of(i, count, names, texts) {
             push_line(heap, &mut out, i, name)?;

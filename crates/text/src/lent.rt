@@ -54,6 +54,7 @@ pub(crate) fn push<T: Copy>(rows: &mut [T], count: usize, limit: usize, row: T) 
     if count >= limit || count >= rows.len() {
         return None;
     }
+    // Stays: with `*rows.get_mut(count)? = row` the check knows no row afterwards, and the clause did not prove.
     rows[count] = row;
     Some(count + 1)
 }
