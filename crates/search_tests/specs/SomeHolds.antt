@@ -1,5 +1,5 @@
 -- The plans in which some statement holds, found out only when all is decided.
-use Rattle.std.specs.Prelude.{◌≡◌, ℕ, Bool, true, false, cond, ◌&&◌, List, [], ◌∷◌, ◌==◌}
+use Rattle.std.specs.Prelude.{◌≡◌, ℕ, Bool, false, cond, List, ◌==◌}
 use Rattle.std.specs.List.{list_all}
 use Rattle.source.specs.Plans.{Whole}
 use Rattle.base.specs.Laws.{Out, clash, fits}

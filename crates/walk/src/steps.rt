@@ -43,6 +43,7 @@ pub fn run<B: Base>(base: &B, partial: &mut [u8]) -> Result<Answer, Refusal>
     ensures { Ran (B.wide base.now) (B.outcome base.now) partial.old partial.new result }
 {
     let mut trail = Trail::new();
+    // Stays: a loop, since only the theory counts its steps, so no iterator ends it.
     'steps: loop {
         if let ControlFlow::Break(answer) = step(base, partial, &mut trail)? {
             return Ok(answer);
