@@ -15,7 +15,7 @@ pub struct Filled {
 }
 
 // The three tables that a caller lends.
-#[derive(Drop)]
+#[derive(Debug, Drop)]
 pub struct Tables<'a> {
     pub names: &'a mut [NameRow],
     pub rules: &'a mut [RuleRow],

@@ -75,21 +75,15 @@ impl Desk {
         self.names.get(statement).copied()
     }
 
-    // The head of a rule, its first entry and how many it has.
-    pub fn rule(&self, number: usize) -> Option<(u16, u16, u16)> {
-        self.rules.get(number).map(numbers)
+    pub fn rule(&self, number: usize) -> Option<RuleRow> {
+        self.rules.get(number).copied()
     }
 
     // Every row from these on is this one.
     fn holds(&self, from: Counts, name: NameRow, rule: RuleRow, entry: u16) -> bool {
         let (_, names, rules, entries) = from;
-        let rule = numbers(&rule);
         self.names.iter().skip(names).all(|row| *row == name)
-            && self
-                .rules
-                .iter()
-                .skip(rules)
-                .all(|row| numbers(row) == rule)
+            && self.rules.iter().skip(rules).all(|row| *row == rule)
             && self.entries.iter().skip(entries).all(|code| *code == entry)
     }
 
@@ -109,16 +103,16 @@ impl Desk {
     }
 }
 
-fn numbers(row: &RuleRow) -> (u16, u16, u16) {
-    (row.head, row.first, row.count)
-}
-
 pub fn name_row(text: Owner, first: u16, size: u16) -> NameRow {
     NameRow {
         text: text.number(),
         first,
         size,
     }
+}
+
+pub fn rule_row(head: u16, first: u16, count: u16) -> RuleRow {
+    RuleRow { head, first, count }
 }
 
 // A fault of the region's text, and of the harbour's.

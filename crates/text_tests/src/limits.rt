@@ -133,6 +133,6 @@ fn one_rule_may_have_all_entries(rt: HostRuntime) -> Result<(), Fail> {
     let mut desk = Desk::large(heap)?;
     assert_eq!(rt; desk.region(&text), Ok(()));
     assert_eq!(rt; desk.counts(), (1, 1, 1, 8192));
-    assert_eq!(rt; desk.rule(0), Some((65535, 0, 8192)));
+    assert_eq!(rt; desk.rule(0), Some(rule_row(65535, 0, 8192)));
     Ok(())
 }

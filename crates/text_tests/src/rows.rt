@@ -28,11 +28,11 @@ fn names_are_numbered_in_the_order_of_first_use(rt: HostRuntime) -> Result<(), F
 fn a_run_begins_where_the_last_ended(rt: HostRuntime) -> Result<(), Fail> {
     let mut desk = Desk::new(rt.alloc(), 8, 8, 8)?;
     assert_eq!(rt; desk.region(b"a. a :- b, c. b. :- c. c."), Ok(()));
-    assert_eq!(rt; desk.rule(0), Some((0, 0, 0)));
-    assert_eq!(rt; desk.rule(1), Some((0, 0, 2)));
-    assert_eq!(rt; desk.rule(2), Some((1, 2, 0)));
-    assert_eq!(rt; desk.rule(3), Some((65535, 2, 1)));
-    assert_eq!(rt; desk.rule(4), Some((2, 3, 0)));
+    assert_eq!(rt; desk.rule(0), Some(rule_row(0, 0, 0)));
+    assert_eq!(rt; desk.rule(1), Some(rule_row(0, 0, 2)));
+    assert_eq!(rt; desk.rule(2), Some(rule_row(1, 2, 0)));
+    assert_eq!(rt; desk.rule(3), Some(rule_row(65535, 2, 1)));
+    assert_eq!(rt; desk.rule(4), Some(rule_row(2, 3, 0)));
     assert_eq!(rt; desk.counts(), (1, 3, 5, 3));
     assert!(rt; desk.is_untouched());
     Ok(())
@@ -47,8 +47,8 @@ fn the_harbour_goes_on_with_the_regions_numbers(rt: HostRuntime) -> Result<(), F
     assert_eq!(rt; desk.counts(), (2, 3, 3, 2));
     assert_eq!(rt; desk.name(1), Some(name_row(Owner::Region, 5, 1)));
     assert_eq!(rt; desk.name(2), Some(name_row(Owner::Harbour, 9, 1)));
-    assert_eq!(rt; desk.rule(1), Some((1, 1, 1)));
-    assert_eq!(rt; desk.rule(2), Some((0, 2, 0)));
+    assert_eq!(rt; desk.rule(1), Some(rule_row(1, 1, 1)));
+    assert_eq!(rt; desk.rule(2), Some(rule_row(0, 2, 0)));
     assert_eq!(rt; desk.entries.get(1).copied(), Some(5));
     assert!(rt; desk.is_untouched());
     Ok(())
@@ -67,7 +67,7 @@ fn a_refused_harbour_leaves_the_region(rt: HostRuntime) -> Result<(), Fail> {
     assert!(rt; desk.is_blank());
     assert_eq!(rt; desk.name(0), Some(name_row(Owner::Region, 0, 1)));
     assert_eq!(rt; desk.name(1), Some(name_row(Owner::Region, 5, 1)));
-    assert_eq!(rt; desk.rule(0), Some((0, 0, 1)));
+    assert_eq!(rt; desk.rule(0), Some(rule_row(0, 0, 1)));
     assert_eq!(rt; desk.entries.get(0).copied(), Some(2));
     Ok(())
 }

@@ -8,7 +8,7 @@ use rulebook::row::RuleRow;
 use rulebook::sealed::Rulebook;
 
 // A draft that was not sealed, handed back, and why.
-#[derive(Drop)]
+#[derive(Debug, Drop)]
 pub struct Unsealed {
     pub draft: Draft,
     pub refusal: SealRefusal,
