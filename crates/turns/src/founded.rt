@@ -79,6 +79,7 @@ fn fail_unfounded(p: &mut [u8], s: usize, founded: bool) -> Turned
 }
 
 // Makes every statement that is not marked fail.
+// Stays: a loop beside that of hold_body, since no clause can range over the laws of the turns that one loop would take.
 fn fail_unmarked(p: &mut [u8], marks: &[bool]) -> Turned
     requires narrow { length p.old ≤ 512 }
     requires wide { length marks.now ≡ length p.old }
