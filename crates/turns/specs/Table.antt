@@ -1,5 +1,5 @@
 -- What the tables of a rulebook mean, and what the turns of its rules promise.
-use Rattle.std.specs.Prelude.{◌≡◌, ℕ, ◌+◌, ◌*◌, ◌/◌, ◌%◌, ◌<◌, ◌≤◌, Bool, true, false, not, ◌≢◌, ◌⊎◌, List, map, count_by, length, Option as Maybe, Ok, Err, Result, take, drop, slice_index, slice_index_or}
+use Rattle.std.specs.Prelude.{◌≡◌, ℕ, ◌+◌, ◌*◌, ◌/◌, ◌%◌, ◌<◌, ◌≤◌, Bool, true, false, not, ◌≢◌, ◌⊎◌, List, map, count_by, length, Option as Maybe, Some, None, if◌then◌else◌, ◌==◌, Ok, Err, Result, take, drop, slice_index, slice_index_or}
 use Rattle.std.proofs.Math.Option.{some}
 use Rattle.closing.specs.Sets.{holds, contrary, In, Within, Under, Codes}
 use Rattle.closing.specs.Turns.{Further}
@@ -26,6 +26,10 @@ abbrev pub LawTurn : ((ℕ → Bool) → Type 0) → List ℕ → List ℕ → R
 LawTurn L p q (Ok false) = (q ≡ p) × L (holds p)
 LawTurn L p q (Ok true) = Further L p q
 LawTurn L p q (Err c) = (C : ℕ → Bool) → L C → Under C p → (e : ℕ) × (e < 2 * length p) × (C e ≡ true) × (C (contrary e) ≡ true)
+
+-- the head of a row as code has it
+abbrev pub head_in : RuleRow → Maybe ℕ
+head_in r = if r.head == 65535 then None else Some r.head
 
 -- the rule of a head and a body
 abbrev pub rule_from : Maybe ℕ → List ℕ → Rule

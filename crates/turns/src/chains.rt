@@ -6,9 +6,9 @@ ghost use Rattle.closing.specs.Sets.{Codes};
 ghost use Rattle.turns.specs.Chain.{Tops, Links};
 ghost use Rattle.turns.specs.Table.{Hit, LawTurn, AllOf, HoldAt};
 
-use crate::failing;
 use crate::table::Table;
-use closing::{Few, Turned, contrary_of, decide, entry_holds};
+use crate::{failing, is_contradicted};
+use closing::{Few, Turned, decide};
 use rulebook::{NAMES_MAX, RULES_MAX};
 use source::bytes::HOLDS;
 
@@ -65,9 +65,10 @@ impl Chains {
 
 // Whether an entry of a body is contradicted.
 fn body_cancelled(p: &[u8], body: &[u16]) -> bool
+    requires { Codes (length p.now) body.now }
     ensures { Hit p.now body.now result }
 {
-    body.iter().any(|e| entry_holds(p, contrary_of(*e)))
+    body.iter().any(|&e| is_contradicted(p, e))
 }
 
 // Makes every entry of a body hold.
@@ -99,7 +100,8 @@ impl<'a> ChainedTable<'a> {
 
     // The rows that support a statement: they have it as head and are not cancelled.
     fn supporters(&self, p: &[u8], s: usize) -> Few<usize>
-        requires { s < 512 }
+        requires at { s < 512 }
+        requires wide { length p.now ≡ self.now.table.width }
         ensures { SupportIs p.now self.now.table.rows.now self.now.table.entries.now s result }
     {
         let mut only = None;

@@ -5,38 +5,41 @@ ghost use Rattle.closing.specs.Fews.{Lacks};
 ghost use Rattle.closing.specs.Sets.{holds, Codes};
 ghost use Rattle.stable.specs.Books.{HeadFails};
 ghost use Rattle.turns.specs.Meaning.{lifted};
-ghost use Rattle.turns.specs.Table.{LawTurn, RowKept, rule_from};
+ghost use Rattle.turns.specs.Table.{LawTurn, RowKept, head_in, rule_from};
 
 use crate::table::Table;
-use crate::{failing, holding};
-use closing::{Clash, Few, Turned, contrary_of, decide, entry_holds, exceptions};
+use crate::{failing, holding, holds_in};
+use closing::{Clash, Few, Turned, contrary_of, decide, exceptions};
+use rulebook::row::RuleRow;
 
 // Which entries of a body, read as a set, do not hold.
 fn lacking(p: &[u8], body: &[u16]) -> Few<u16>
+    requires { Codes (length p.now) body.now }
     ensures { Lacks (holds p.now) body.now result }
 {
-    exceptions(body, |e| entry_holds(p, e))
+    exceptions(body, |e| holds_in(p, e))
 }
 
 // Whether a rule's head fails or is missing.
-fn head_fails(p: &[u8], head: Option<usize>) -> bool
-    requires { IfSome head (λ s. s < 512) }
+fn head_fails(p: &[u8], head: Option<u16>) -> bool
+    requires narrow { length p.now ≤ 512 }
+    requires headed { IfSome head (λ s. s < length p.now) }
     ensures { MatchBool result (HeadFails (holds p.now) (lifted head)) (HeadFails (holds p.now) (lifted head) → ⊥) }
 {
-    head.is_none_or(|s| entry_holds(p, failing(s)))
+    head.is_none_or(|s| holds_in(p, failing(s as usize)))
 }
 
-// Forward and contraposition for one rule.
-fn rule_step(p: &mut [u8], head: Option<usize>, body: &[u16]) -> Turned
+// Forward and contraposition for one rule. Its head is read only where it matters: mostly several entries are lacking.
+fn rule_step(p: &mut [u8], row: RuleRow, body: &[u16]) -> Turned
     requires narrow { length p.old ≤ 512 }
     requires bytes { UpTo 2 p.old }
-    requires headed { IfSome head (λ s. s < length p.old) }
+    requires headed { IfSome (head_in row) (λ s. s < length p.old) }
     requires codes { Codes (length p.old) body.now }
-    ensures { LawTurn (λ C. RowKept C (rule_from head body.now)) p.old p.new result }
+    ensures { LawTurn (λ C. RowKept C (rule_from (head_in row) body.now)) p.old p.new result }
 {
     match lacking(p, body) {
-        Few::Nothing => match head {
-            Some(s) => decide(p, holding(s)),
+        Few::Nothing => match row.head() {
+            Some(s) => decide(p, holding(s as usize)),
             None => {
                 if body.is_empty() {
                     Ok(false)
@@ -46,7 +49,7 @@ fn rule_step(p: &mut [u8], head: Option<usize>, body: &[u16]) -> Turned
             }
         },
         Few::Only(e) => {
-            if head_fails(p, head) {
+            if head_fails(p, row.head()) {
                 decide(p, contrary_of(e))
             } else {
                 Ok(false)
@@ -66,6 +69,6 @@ impl<'a> Table<'a> {
         ensures { LawTurn (λ C. RowKept C (rule_at self.now.rows.now self.now.entries.now i)) p.old p.new result }
     {
         let row = self.rows[i];
-        rule_step(p, self.head(row), self.body(row))
+        rule_step(p, row, self.body(row))
     }
 }

@@ -2,31 +2,24 @@
 ghost use Rattle.std.specs.Prelude.{◌≡◌, ℕ, Bool, ◌+◌, ◌*◌, ◌<◌, ◌≤◌, true, false, length, slice_index_or};
 ghost use Rattle.std.specs.List.{Contains};
 ghost use Rattle.source.specs.Plans.{UpTo, Partial};
-ghost use Rattle.closing.specs.Sets.{holds};
+ghost use Rattle.closing.specs.Sets.{holds, Codes};
 ghost use Rattle.rulebook.specs.Rows.{blank};
 ghost use Rattle.turns.specs.Meaning.{book_of};
 ghost use Rattle.turns.specs.Table.{marked, BodyFounded, MarkTurn, MarkPass, Never, RowDone, LawTurn, AllOf, FailAt, UnfoundedFail};
 
-use crate::failing;
 use crate::table::Table;
-use closing::{Turned, contrary_of, decide, entry_holds};
+use crate::{failing, is_contradicted};
+use closing::{Turned, decide};
 use rulebook::NAMES_MAX;
 use rulebook::row::RuleRow;
 
-// Whether the marks say that a statement is founded.
-fn is_marked(marks: &[bool], s: usize) -> bool
-    ensures { result ≡ marked marks.now s }
-{
-    marks.get(s).copied().unwrap_or(false)
-}
-
 // Whether a body is not cancelled and all its plain entries are marked.
 fn body_founded(p: &[u8], marks: &[bool], body: &[u16]) -> bool
+    requires wide { length marks.now ≡ length p.now }
+    requires codes { Codes (length p.now) body.now }
     ensures { BodyFounded p.now marks.now body.now result }
 {
-    body.iter().all(|e| {
-        !entry_holds(p, contrary_of(*e)) && (*e % 2 == 1 || is_marked(marks, (*e / 2) as usize))
-    })
+    body.iter().all(|&e| !is_contradicted(p, e) && (e % 2 == 1 || marks[(e / 2) as usize]))
 }
 
 // Marks the head of a row, if the row founds it; whether it was marked now.
@@ -86,6 +79,7 @@ fn fail_unfounded(p: &mut [u8], s: usize, founded: bool) -> Turned
 }
 
 // Makes every statement that is not marked fail.
+// Stays: a loop beside that of hold_body, since no clause can range over the laws of the turns that one loop would take.
 fn fail_unmarked(p: &mut [u8], marks: &[bool]) -> Turned
     requires narrow { length p.old ≤ 512 }
     requires wide { length marks.now ≡ length p.old }

@@ -26,13 +26,13 @@ bounds-self-i-in-Some c = let t = c.args.self.now.table in let few = c.args.self
 pub loop-next-smaller : goal.loop-next-smaller
 loop-next-smaller c = let t = c.args.self.now.table in
     walk_down c.args.p.now t.rows.now t.entries.now c.args.s c.in-Some.i _ _ c.in-Some.is c.loop-next.invariant _
-    (walk_next c.args.p.now t.rows.now t.entries.now c.args.s c.in-Some.i _ _ c.in-Some.is c.loop-next.invariant c.args.self.now.chains.older c.args.self.now.links c.requires)
+    (walk_next c.args.p.now t.rows.now t.entries.now c.args.s c.in-Some.i _ _ c.in-Some.is c.loop-next.invariant c.args.self.now.chains.older c.args.self.now.links c.requires.at)
 
 pub loop-next-preserved : goal.loop-next-preserved
 loop-next-preserved c =
     let t = c.args.self.now.table in let p = c.args.p.now in let s = c.args.s in let i = c.in-Some.i in let w = c.loop-next.invariant in
     let next = get_or c.args.self.now.chains.older i None in
-    let e : next ≡ newest_row t.rows.now s i = walk_next p t.rows.now t.entries.now s i _ _ c.in-Some.is w c.args.self.now.chains.older c.args.self.now.links c.requires in
+    let e : next ≡ newest_row t.rows.now s i = walk_next p t.rows.now t.entries.now s i _ _ c.in-Some.is w c.args.self.now.chains.older c.args.self.now.links c.requires.at in
     elim c.if-not-body_cancelled.branch [
       | then-not-body_cancelled+else-is_some v ↦ subst (Walked p t.rows.now t.entries.now s next) (sym v.only-is)
           (walk_only p t.rows.now t.entries.now s i _ _ c.in-Some.is w next e (none_of c.loop-next.only (sym v.if-is_some.ensures)) (subst (λ b. Hit p b false) c.body.ensures.value v.if-not-body_cancelled.ensures))
