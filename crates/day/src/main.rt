@@ -14,10 +14,9 @@ mod show;
 const PLANS: [u8; 18] = [1, 2, 2, 1, 1, 1, 2, 1, 1, 2, 1, 1, 1, 2, 2, 1, 2, 1];
 
 fn main(rt: HostRuntime) -> io::Result<()> {
-    let mut plans = Listed::none();
-    if plans.lend(6, 3, &PLANS).is_err() {
+    let Ok(plans) = Listed::new(6, 3, &PLANS) else {
         return println!(rt; "the plans cannot be listed");
-    }
+    };
     let calls = [
         Call::Tally,
         Call::Begin(&[1; 6]),

@@ -11,9 +11,7 @@ const PLANS: [u8; 12] = [1, 2, 1, 1, 2, 1, 1, 1, 1, 2, 2, 1];
 // The words after a begin: loose is what fails in the first plan.
 #[test]
 fn begins(rt: HostRuntime) -> Result<(), Fail> {
-    let mut plans = Listed::none();
-    plans.lend(4, 3, &PLANS)?;
-    let mut sheet = Sheet::new(plans);
+    let mut sheet = Sheet::new(Listed::new(4, 3, &PLANS)?);
     sheet.begin(&[1, 1, 1, 0])?;
     assert_eq!(rt; sheet.tell(0), Ok(Word::Open));
     assert_eq!(rt; sheet.tell(1), Ok(Word::Loose));
@@ -32,9 +30,7 @@ fn begins(rt: HostRuntime) -> Result<(), Fail> {
 // After a plan every open candidate that fails in it is loose, marked or not; after none the marked are certain.
 #[test]
 fn settles_a_group(rt: HostRuntime) -> Result<(), Fail> {
-    let mut plans = Listed::none();
-    plans.lend(4, 3, &PLANS)?;
-    let mut sheet = Sheet::new(plans);
+    let mut sheet = Sheet::new(Listed::new(4, 3, &PLANS)?);
     sheet.begin(&[1, 1, 1, 1])?;
     assert_eq!(rt; sheet.settle(&[0, 0, 1, 0]), Ok(1));
     assert_eq!(rt; sheet.tell(2), Ok(Word::Loose));
@@ -48,9 +44,7 @@ fn settles_a_group(rt: HostRuntime) -> Result<(), Fail> {
 // A pin turns a loose word back to open, keeps what is certain, and makes a candidate pinned to hold certain.
 #[test]
 fn pins_read_anew(rt: HostRuntime) -> Result<(), Fail> {
-    let mut plans = Listed::none();
-    plans.lend(4, 3, &PLANS)?;
-    let mut sheet = Sheet::new(plans);
+    let mut sheet = Sheet::new(Listed::new(4, 3, &PLANS)?);
     sheet.begin(&[1, 1, 1, 1])?;
     assert_eq!(rt; sheet.settle_by("over", 0), Ok(1));
     assert_eq!(rt; sheet.settle_by("over", 0), Ok(1));
@@ -75,9 +69,7 @@ fn pins_read_anew(rt: HostRuntime) -> Result<(), Fail> {
 // A chunk larger than what is open marks all that is open; a chunk of 1 the lowest alone.
 #[test]
 fn chunks(rt: HostRuntime) -> Result<(), Fail> {
-    let mut plans = Listed::none();
-    plans.lend(3, 1, &[1, 1, 1])?;
-    let mut sheet = Sheet::new(plans);
+    let mut sheet = Sheet::new(Listed::new(3, 1, &[1, 1, 1])?);
     sheet.begin(&[1, 1, 1])?;
     assert_eq!(rt; sheet.settle_by("chunk", 1), Ok(1));
     assert_eq!(rt; sheet.tell(0), Ok(Word::Certain));
@@ -97,8 +89,7 @@ fn chunks(rt: HostRuntime) -> Result<(), Fail> {
 // As many calls are made as have a place for the reply, and a refused one changes nothing.
 #[test]
 fn runs_a_list(rt: HostRuntime) -> Result<(), Fail> {
-    let mut plans = Listed::none();
-    plans.lend(1, 2, &[1, 2])?;
+    let plans = Listed::new(1, 2, &[1, 2])?;
     let calls = [
         Call::Tally,
         Call::Begin(&[1]),

@@ -5,9 +5,7 @@ use std::test::Fail;
 
 #[test]
 fn of_begin(rt: HostRuntime) -> Result<(), Fail> {
-    let mut plans = Listed::none();
-    plans.lend(2, 1, &[1, 1])?;
-    let mut sheet = Sheet::new(plans);
+    let mut sheet = Sheet::new(Listed::new(2, 1, &[1, 1])?);
     assert_eq!(rt;
         sheet.begin(&[2]),
         Err(SheetRefusal::Length),
@@ -32,9 +30,7 @@ fn of_begin(rt: HostRuntime) -> Result<(), Fail> {
 
 #[test]
 fn without_a_plan(rt: HostRuntime) -> Result<(), Fail> {
-    let mut plans = Listed::none();
-    plans.lend(2, 0, &[])?;
-    let mut sheet = Sheet::new(plans);
+    let mut sheet = Sheet::new(Listed::new(2, 0, &[])?);
     assert_eq!(rt; sheet.begin(&[0, 1]), Err(SheetRefusal::NoPlan));
     assert_eq!(rt;
         sheet.tally(),
@@ -46,9 +42,7 @@ fn without_a_plan(rt: HostRuntime) -> Result<(), Fail> {
 
 #[test]
 fn of_settle(rt: HostRuntime) -> Result<(), Fail> {
-    let mut plans = Listed::none();
-    plans.lend(3, 1, &[1, 2, 1])?;
-    let mut sheet = Sheet::new(plans);
+    let mut sheet = Sheet::new(Listed::new(3, 1, &[1, 2, 1])?);
     assert_eq!(rt;
         sheet.settle(&[1, 2]),
         Err(SheetRefusal::Length),
@@ -88,9 +82,7 @@ fn of_settle(rt: HostRuntime) -> Result<(), Fail> {
 
 #[test]
 fn of_settle_by(rt: HostRuntime) -> Result<(), Fail> {
-    let mut plans = Listed::none();
-    plans.lend(1, 1, &[1])?;
-    let mut sheet = Sheet::new(plans);
+    let mut sheet = Sheet::new(Listed::new(1, 1, &[1])?);
     assert_eq!(rt;
         sheet.settle_by("sideways", 0),
         Err(SheetRefusal::Unbegun),
@@ -108,9 +100,7 @@ fn of_settle_by(rt: HostRuntime) -> Result<(), Fail> {
 
 #[test]
 fn of_pin(rt: HostRuntime) -> Result<(), Fail> {
-    let mut plans = Listed::none();
-    plans.lend(2, 1, &[1, 2])?;
-    let mut sheet = Sheet::new(plans);
+    let mut sheet = Sheet::new(Listed::new(2, 1, &[1, 2])?);
     assert_eq!(rt; sheet.pin(9, 3), Err(SheetRefusal::Value), "unbegun too");
     assert_eq!(rt;
         sheet.pin(9, 1),
@@ -134,9 +124,7 @@ fn of_pin(rt: HostRuntime) -> Result<(), Fail> {
 
 #[test]
 fn of_tell_and_tally(rt: HostRuntime) -> Result<(), Fail> {
-    let mut plans = Listed::none();
-    plans.lend(2, 1, &[1, 1])?;
-    let mut sheet = Sheet::new(plans);
+    let mut sheet = Sheet::new(Listed::new(2, 1, &[1, 1])?);
     assert_eq!(rt;
         sheet.tell(2),
         Err(SheetRefusal::Unbegun),

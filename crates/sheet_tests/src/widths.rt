@@ -5,9 +5,7 @@ use std::test::Fail;
 
 #[test]
 fn none(rt: HostRuntime) -> Result<(), Fail> {
-    let mut plans = Listed::none();
-    plans.lend(0, 1, &[])?;
-    let mut sheet = Sheet::new(plans);
+    let mut sheet = Sheet::new(Listed::new(0, 1, &[])?);
     sheet.begin(&[])?;
     assert_eq!(rt;
         sheet.tally(),
@@ -26,9 +24,7 @@ fn none(rt: HostRuntime) -> Result<(), Fail> {
 #[test]
 fn as_many_as_lines(rt: HostRuntime) -> Result<(), Fail> {
     let row = [1u8; 512];
-    let mut plans = Listed::none();
-    plans.lend(512, 1, &row)?;
-    let mut sheet = Sheet::new(plans);
+    let mut sheet = Sheet::new(Listed::new(512, 1, &row)?);
     sheet.begin(&row)?;
     sheet.pin(511, 1)?;
     assert_eq!(rt; sheet.tell(511), Ok(Word::Certain));
@@ -48,10 +44,8 @@ fn as_many_as_lines(rt: HostRuntime) -> Result<(), Fail> {
 #[test]
 fn one_too_many(rt: HostRuntime) -> Result<(), Fail> {
     let row = [1u8; 513];
-    let mut first = Listed::none();
-    first.lend(256, 1, &row[0..256])?;
-    let mut second = Listed::none();
-    second.lend(257, 1, &row[0..257])?;
+    let first = Listed::new(256, 1, &row[0..256])?;
+    let second = Listed::new(257, 1, &row[0..257])?;
     let mut sheet = Sheet::new(Pair::new(first, second));
     assert_eq!(rt; sheet.begin(&row[0..512]), Err(SheetRefusal::Length));
     assert_eq!(rt; sheet.begin(&[2u8; 513]), Err(SheetRefusal::Mark));
