@@ -133,9 +133,8 @@ fn settle_pairs(pairs: u8, alloc: Global) -> Option<Settled> {
     let runs = runs_of(pairs, alloc).ok()?;
     let entries = entries_of(pairs, alloc).ok()?;
     let width = 3 * usize::from(pairs);
-    let mut list = ClauseList::empty();
-    list.lend(width, &runs, &entries).ok()?;
-    settle_base(&Closing { rules: list }, width, alloc)
+    let rules = ClauseList::new(width, &runs, &entries).ok()?;
+    settle_base(&Closing { rules }, width, alloc)
 }
 
 fn main(rt: HostRuntime) -> io::Result<()> {

@@ -60,12 +60,11 @@ fn same_for_list<const N: usize, const C: usize>(clauses: &[u8; C]) -> bool
     let Some(entries) = lay(clauses, &mut runs, &mut entries) else {
         return false;
     };
-    let mut list = ClauseList::empty();
-    if list.lend(N, &runs, entries).is_err() {
+    let Ok(rules) = ClauseList::new(N, &runs, entries) else {
         return false;
-    }
+    };
     let search = Search {
-        base: Closing { rules: list },
+        base: Closing { rules },
     };
     same_for_all::<N, _, _>(&search, &Sets { clauses })
 }
