@@ -11,7 +11,7 @@ ghost use Rattle.stable.specs.Books.{BookPlan};
 ghost use Rattle.bases.specs.Bodiless.{bodiless};
 ghost use Rattle.bases.specs.ByRules.{ByRules};
 ghost use Rattle.bases.specs.Tables.{table_forces, table_based};
-ghost use Rattle.turns.specs.Meaning.{book_at, book_in};
+ghost use Rattle.turns.specs.Meaning.{book_at, book_in, Tables};
 
 use base::{Base, Outcome};
 use closing::{Clash, Closing, Rules, Turned};
@@ -46,7 +46,8 @@ fn row_turn(table: &Table, p: &mut [u8], i: usize) -> Turned
 impl<'a> RulebookRules<'a> {
     // The rules of a sealed rulebook, ready to extend partials.
     pub fn over(book: &'a Rulebook) -> RulebookRules<'a>
-        ensures { book_at result.chained.table ≡ book_in book.now }
+        ensures table { Tables book.now result.chained.table }
+        ensures book { book_at result.chained.table ≡ book_in book.now }
     {
         RulebookRules {
             chained: ChainedTable::new(Table::from(book)),
