@@ -8,7 +8,7 @@ ghost use Rattle.text.specs.View.{rows_of, IsSameLoan};
 ghost use Rattle.kubresa.specs.Both.{both_read};
 ghost use Rattle.kubresa.specs.Output.{name_line, listed, printed};
 
-use anyhow::Context;
+use anyhow::anyhow;
 use rulebook::{ENTRIES_MAX, NAMES_MAX, RULES_MAX};
 use std::alloc::{AllocError, Global};
 use std::fs::File;
@@ -32,6 +32,15 @@ fn load(rt: &impl Files, heap: Global, path: &str) -> io::Result<Vec<u8>> {
         Err(e) => return Err(e),
     }
     Ok(bytes)
+}
+
+// The same; an error names the file.
+// Stays: where no memory is left for the message, that is said in its place; `context` has its message without any.
+fn load_named(rt: &impl Files, heap: Global, path: &str) -> anyhow::Result<Vec<u8>> {
+    match load(rt, heap, path) {
+        Ok(bytes) => Ok(bytes),
+        Err(e) => Err(anyhow!(format!(in heap; "{path}: {e}")?)),
+    }
 }
 
 // Reads the region's text and then the harbour's.
@@ -94,8 +103,8 @@ fn output(heap: Global, texts: Texts, tables: &mut Tables) -> Result<Vec<u8>, Al
 }
 
 fn run(rt: &(impl Files + Print), heap: Global) -> anyhow::Result<()> {
-    let region = load(rt, heap, "region.txt").context("region.txt")?;
-    let harbour = load(rt, heap, "harbour.txt").context("harbour.txt")?;
+    let region = load_named(rt, heap, "region.txt")?;
+    let harbour = load_named(rt, heap, "harbour.txt")?;
     let texts = Texts {
         region: region.as_slice(),
         harbour: harbour.as_slice(),
@@ -116,7 +125,7 @@ fn run(rt: &(impl Files + Print), heap: Global) -> anyhow::Result<()> {
 // An error is written under the name of the program, and the status is then 1.
 fn main(rt: HostRuntime) -> anyhow::Result<ExitCode> {
     if let Err(e) = run(&rt, rt.alloc()) {
-        eprintln!(rt; "kubresa: {e:#}")?;
+        eprintln!(rt; "kubresa: {e}")?;
         return Ok(ExitCode::FAILURE);
     }
     Ok(ExitCode::SUCCESS)

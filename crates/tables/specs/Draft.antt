@@ -8,7 +8,7 @@ use Rattle.tables.specs.declared.Cause.TheVariants.{LongText, ThirdText, ShortTa
 use Rattle.tables.specs.declared.Owner.{Owner}
 use Rattle.tables.specs.declared.Owner.TheVariants.{Region, Harbour}
 use Rattle.tables.specs.declared.Phase.TheVariants.{Start}
-use Rattle.tables.specs.Limits.{text_max, texts_max, no_head}
+use Rattle.tables.specs.Limits.{text_max, texts_max}
 use Rattle.rulebook.specs.Rows.{blank}
 use Rattle.tables.specs.Names.{blank_name}
 use Rattle.tables.specs.Feed.{Stage, Tables, Texts, Fed, on, off}
@@ -57,7 +57,7 @@ texts_for n text earlier = cond (n == 0) (record { region = text; harbour = []; 
 
 -- before the first word
 abbrev pub stage_from : Counts → Stage
-stage_from d = record { phase = Start; head = no_head; first = d.entries; names = d.names; rules = d.rules; entries = d.entries }
+stage_from d = record { phase = Start; head = 0; first = d.entries; names = d.names; rules = d.rules; entries = d.entries }
 
 -- what is left when reading has ended, and when it has stopped
 abbrev pub settled : Counts → List ℕ → Tables → Fed → Outcome

@@ -1,4 +1,4 @@
--- The numbers of causes and of texts, and how a fault is written.
+-- The numbers of causes and of texts, and how a fault and a number of no text are written.
 use Rattle.std.specs.Prelude.{ℕ, cond, List, ◌++◌, Ok, Err, Result, codes, decimal, ◌==◌}
 use Rattle.tables.specs.declared.Fault.{Fault}
 use Rattle.tables.specs.declared.NoText.{NoText}
@@ -27,6 +27,10 @@ owner_number Harbour = 1
 -- whose text has the number, or none
 abbrev pub owner_numbered : ℕ → Result Owner NoText
 owner_numbered n = cond (n == 0) (Ok Region) (cond (n == 1) (Ok Harbour) (Err (record { number = n })))
+
+-- a number that is no text's, as it is printed
+abbrev pub no_text_line : NoText → List ℕ
+no_text_line n = codes "no text has number " ++ decimal n.number
 
 -- a fault, as it is printed
 abbrev pub fault_text : Fault → List ℕ

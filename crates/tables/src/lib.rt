@@ -2,7 +2,7 @@
 #![tactic(auto)]
 
 ghost use Rattle.std.specs.Prelude.{◌≡◌, Some};
-ghost use Rattle.tables.specs.Numbers.{number_of, owner_number, owner_numbered, fault_text};
+ghost use Rattle.tables.specs.Numbers.{number_of, owner_number, owner_numbered, no_text_line, fault_text};
 ghost use Rattle.tables.specs.Reading.{cause_of, stop_of};
 
 pub use rulebook::row::RuleRow;
@@ -32,6 +32,8 @@ pub struct NoText {
 }
 
 impl fmt::Display for NoText {
+    ghost output = { λ n. Some (no_text_line n) };
+
     fn fmt<W: fmt::Write>(&self, f: &mut fmt::Formatter<W>) -> fmt::Result {
         write!(f, "no text has number {}", self.number)
     }

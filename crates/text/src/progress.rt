@@ -26,7 +26,8 @@ impl Progress {
     {
         Progress {
             phase: Phase::Start,
-            head: None,
+            // Stays: the definition begins with 0; nothing reads it before a rule has set it.
+            head: Some(0),
             first: filled.entries,
             filled,
         }
