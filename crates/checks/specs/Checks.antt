@@ -67,12 +67,12 @@ IsWay way = (way ≡ 1) ⊎ (way ≡ 2)
 
 -- a pin, with its way
 abbrev pub MayPin : ℕ → Table → ℕ → ℕ → Result Way SheetRefusal → Type 0
-MayPin w t s way (Ok v) = (way_number v ≡ way) × ((view w t).begun ≡ true) × (s < width_of t.over) × ((view w t).pin s ≡ 0)
+MayPin w t s way (Ok v) = (way_number v ≡ way) × ((view w t).begun ≡ true) × (s < width_of t.over) × ((line_at t.lines.rows s).pin ≡ 0)
 MayPin w t s way (Err e) =
     MatchBool (is e Value) (IsWay way → ⊥)
     (MatchBool (is e Unbegun) (IsWay way × ((view w t).begun ≡ false))
     (MatchBool (is e Statement) (IsWay way × ((view w t).begun ≡ true) × (width_of t.over ≤ s))
-    (MatchBool (is e Pinned) (IsWay way × ((view w t).begun ≡ true) × (s < width_of t.over) × ((view w t).pin s ≢ 0)) ⊥)))
+    (MatchBool (is e Pinned) (IsWay way × ((view w t).begun ≡ true) × (s < width_of t.over) × ((line_at t.lines.rows s).pin ≢ 0)) ⊥)))
 
 -- a tell, with its answer
 abbrev pub MayTell : ℕ → Table → ℕ → Result Word SheetRefusal → Type 0

@@ -7,7 +7,7 @@ ghost use Rattle.checks.specs.View.{view};
 ghost use Rattle.checks.specs.Checks.{IsMarks, HasLine, MayBegin, MaySettle, MaySettleBy, MayPin, MayTell, MayTally};
 
 use source::WIDTH_MAX;
-use source::bytes::{MARKED, marks_any, up_to};
+use source::bytes::{MARKED, UNDECIDED, marks_any, up_to};
 use table::line::Line;
 use table::table::Table;
 use technique::Technique;
@@ -103,7 +103,7 @@ impl Checks<'_> {
         ensures { MayPin self.now.width self.now.table.now statement way result }
     {
         let way = Way::try_from(way)?;
-        if self.line(statement)?.pin.is_some() {
+        if self.line(statement)?.pin != UNDECIDED {
             return Err(SheetRefusal::Pinned);
         }
         Ok(way)

@@ -1,2 +1,3 @@
 -- Lists of calls and their replies.
 pub mod Run
+pub mod Text

@@ -1,4 +1,7 @@
 // The calls of a sheet and their replies as values.
+ghost use Rattle.std.specs.Prelude.{Some};
+ghost use Rattle.runs.specs.Text.{reply_text};
+
 use sheet::{Tally, Word};
 use std::fmt;
 
@@ -28,6 +31,8 @@ pub enum Reply {
 }
 
 impl fmt::Display for Reply {
+    ghost output = { λ r. Some (reply_text r) };
+
     fn fmt<W: fmt::Write>(&self, f: &mut fmt::Formatter<W>) -> fmt::Result {
         match self {
             Reply::Done => f.write_str("done"),

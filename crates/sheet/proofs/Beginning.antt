@@ -10,7 +10,6 @@ use Rattle.uses.specs.Step.{Effect, begins}
 use Rattle.checks.specs.View.{view}
 use Rattle.table.specs.Blank.{line_at}
 use Rattle.table.specs.Lineup.{begun_over, begun_line}
-use Rattle.uses.specs.Way.{pin_number}
 
 word_number_lem : (b d : Bool) → word_number (cond b (cond d Loose Open) Open) ≡ cond b (cond d 2 0) 0
 word_number_lem true true = refl
@@ -26,7 +25,7 @@ module _ (w : ℕ) (plan : List ℕ → Type 0) (cs marks place : List ℕ) (fit
       begins (take w place) q
       (ap (λ o. begun_over o w) e ∙ eq-eqb w w refl)
       (λ k. ap (λ (l : Line). l.candidate) (g k))
-      (λ k. ap (λ (l : Line). pin_number l.pin) (g k))
+      (λ k. ap (λ (l : Line). l.pin) (g k))
       word
     where
       g : (k : ℕ) → line_at t.lines.rows k ≡ begun_line (get_or cs k 0) (get_or place k 0)

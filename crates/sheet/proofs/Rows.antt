@@ -9,7 +9,6 @@ use Rattle.uses.specs.declared.Word.{Word}
 use Rattle.uses.specs.declared.Word.TheVariants.{Open, Certain, Loose}
 use Rattle.uses.specs.Model.{State, Call, word_number, number_of, is_open, counted, counted_by, lowest, begin, settle, settle_by, pin, tell, tally, done, settled, told, tallied}
 use Rattle.uses.specs.Step.{pinned_at, Technique, chunk, Cause, Sent, Settles, Rest, Step, begin_length, begin_mark, begin_wide, begin_begun, begin_none, settle_length, settle_mark, settle_unbegun, settle_closed, settle_empty, settle_other, by_unbegun, by_closed, by_zero, by_unknown, pin_way, pin_unbegun, pin_outside, pin_again, pin_none, tell_unbegun, tell_outside, tell_other, tally_unbegun, settles, settles_by, tells, tallies, sent, taken}
-use Rattle.std.specs.Bool.{then_some}
 use Rattle.uses.specs.declared.Way.{Way}
 use Rattle.uses.specs.declared.Way.TheVariants.{Holds, Fails}
 use Rattle.uses.specs.Way.{way_number}
@@ -18,16 +17,16 @@ use Rattle.uses.proofs.Law.{bit_one, bit_none, has_mark}
 use Rattle.uses.specs.declared.Tally.{Tally}
 use Rattle.table.specs.declared.table.Table.{Table}
 use Rattle.table.specs.Blank.{line_at}
-use Rattle.table.specs.Lineup.{width_of, begun_line, pinned_line, lowest_of}
+use Rattle.table.specs.Lineup.{width_of, begun_line, lowest_of}
 use Rattle.table.proofs.Blanks.{tied}
-use Rattle.sheet.specs.Asks.{Found, NotFound}
+use Rattle.sheet.specs.Asks.{Found, NotFound, PinnedBy}
 use Rattle.checks.specs.Checks.{open_in, AllOpen, NotOpen, MayBegin, MaySettle, MaySettleBy, IsWay, MayPin, MayTell, MayTally}
 use Rattle.checks.specs.Named.{limit_of}
 use Rattle.checks.specs.View.{view}
 use Rattle.sheet.specs.View.{done_of, settled_of, told_of, tallied_of}
 use Rattle.sheet.proofs.Settling.{settles_by_lem}
 use Rattle.sheet.proofs.Beginning.{begin_effect}
-use Rattle.sheet.proofs.Pinning.{none_agrees, found_agrees, pin_effect}
+use Rattle.sheet.proofs.Pinning.{way_few, pinned_few, none_agrees, found_agrees, pin_effect}
 use Rattle.sheet.proofs.Naming.{Limit, marked, zeroed, unknown, limit_tied}
 use Rattle.table.proofs.Zeros.{zeros_serve}
 
@@ -314,33 +313,45 @@ is_way : (v : Way) → IsWay (way_number v)
 is_way Holds = inl refl
 is_way Fails = inr refl
 
--- a pin that is not refused before the source is asked
-module _ (w : ℕ) (plan : List ℕ → Type 0) (t : Table) (s way : ℕ) (v : Way) (ps : List ℕ) (may : MayPin w t s way (Ok v))
-    (same : (k : ℕ) → get_or ps k 0 ≡ pinned_at (view w t).pin s (way_number v) k) where
+-- a pin that is not refused before the source is asked, by the number of its way
+module _ (w : ℕ) (plan : List ℕ → Type 0) (t : Table) (s way : ℕ) (v : Way) (n : ℕ) (e : n ≡ way_number v) (ps : List ℕ) (may : MayPin w t s way (Ok v))
+    (same : (k : ℕ) → get_or ps k 0 ≡ pinned_at (λ j. (line_at t.lines.rows j).pin) s n k) where
   wide : width_of t.over ≡ w
   wide = tied t.over w may.1
 
+  pub pin_narrow : w ≤ 512
+  pin_narrow = let e = wide in let h = t.narrow in omega arith
+
+  way_ok : IsWay n
+  way_ok = subst IsWay (sym e) (is_way v)
+
+  pub pin_way_few : n ≤ 2
+  pin_way_few = way_few n way_ok
+
+  pub pin_few : UpTo 2 ps
+  pin_few = pinned_few w t s n wide may.2 ps pin_way_few same
+
   pub pin_lost
-      : (r : Result (Unit {0}) SheetRefusal) (f : SheetRefusal) → r ≡ Err f → f ≡ NoPlan
-      → NotFound w plan ps (replicate 512 0) → Step w plan (view w t) (pin s way) (done_of r) (view w t)
-  pin_lost r f q n lost =
-      subst (λ x. Step w plan (view w t) (pin s x) (done_of r) (view w t)) may.0
-      (no_plan w plan (view w t) (pin s (way_number v)) r f q n
+      : (u : Table) (r : Result (Unit {0}) SheetRefusal) (f : SheetRefusal) → r ≡ Err f → f ≡ NoPlan
+      → NotFound w plan ps (replicate 512 0) → u ≡ t → Step w plan (view w t) (pin s way) (done_of r) (view w u)
+  pin_lost u r f q p lost left =
+      subst (λ y. Step w plan (view w t) (pin s way) (done_of r) (view w y)) (sym left)
+      (subst (λ x. Step w plan (view w t) (pin s x) (done_of r) (view w t)) (e ∙ may.0)
+      (no_plan w plan (view w t) (pin s n) r f q p
       (record {
-        cause = pin_none (none_agrees w t s v wide may.2 plan ps [] 512 same lost);
-        first = pin_above w plan t s (way_number v) 12 (λ _. is_way v) (λ _. may.1) (λ _. inside w plan t s way may.1 may.2) (λ _. may.3) (λ h. absurd (omega arith));
-      }))
+        cause = pin_none (none_agrees w t s n wide may.2 plan ps [] 512 same lost);
+        first = pin_above w plan t s n 12 (λ _. way_ok) (λ _. may.1) (λ _. inside w plan t s n may.1 may.2) (λ _. may.3) (λ h. absurd (omega arith));
+      })))
 
   pub pin_found
-      : (u : Table) (place : List ℕ) → Found w plan ps (replicate 512 0) place → u.over ≡ t.over
-      → ((k : ℕ) → line_at u.lines.rows k ≡ pinned_line (then_some (eqb k s) v) (line_at t.lines.rows k) (get_or place k 0))
+      : (u : Table) (place : List ℕ) → Found w plan ps (replicate 512 0) place → PinnedBy t s n place u
       → Step w plan (view w t) (pin s way) done (view w u)
-  pin_found u place found o ls =
-      subst (λ x. Step w plan (view w t) (pin s x) done (view w u)) may.0
+  pin_found u place found changed =
+      subst (λ x. Step w plan (view w t) (pin s x) done (view w u)) (e ∙ may.0)
       (taken
-      (λ f y. pin_above w plan t s (way_number v) 14 (λ _. is_way v) (λ _. may.1) (λ _. inside w plan t s way may.1 may.2) (λ _. may.3)
-      (λ _. (take w place, found.0, found_agrees w t s v wide may.2 plan ps place 512 same found)) f (below_14 f) y)
-      (pin_effect w t s v wide may.2 plan ps place 512 same u found o ls))
+      (λ f y. pin_above w plan t s n 14 (λ _. way_ok) (λ _. may.1) (λ _. inside w plan t s n may.1 may.2) (λ _. may.3)
+      (λ _. (take w place, found.0, found_agrees w t s n wide may.2 plan ps place 512 same found)) f (below_14 f) y)
+      (pin_effect w t s n wide may.2 plan ps place 512 same u found changed.over changed.lines))
 
 -- tell
 module _ (w : ℕ) (plan : List ℕ → Type 0) (t : Table) (s : ℕ) where

@@ -1,8 +1,8 @@
 -- What a settling does to the sheet.
-use Rattle.std.proofs.Common.{◌≡◌, ℕ, ◌+◌, ◌-◌, ◌<◌, ◌≤◌, Bool, true, false, cond, eqb, List, length, get_or, take, Option, Some, None, MatchOption, sym, refl, ap, ◌∙◌, ⊎_elim, arith, eq-eqb, eqb-true}
+use Rattle.std.proofs.Common.{◌≡◌, ℕ, ◌+◌, ◌-◌, ◌<◌, ◌≤◌, Bool, true, false, cond, eqb, List, length, get_or, take, Option, Some, None, MatchOption, sym, refl, ap, ◌∙◌, subst, ⊎_elim, arith, eq-eqb, eqb-true}
 use Rattle.std.proofs.lemmas.Bool.{cases_lt}
 use Rattle.std.proofs.lemmas.List.{get_or_past, get_or-take, length-take}
-use Rattle.source.specs.Plans.{Whole, AgreesAt}
+use Rattle.source.specs.Plans.{UpTo, Whole, AgreesAt}
 use Rattle.table.specs.declared.line.Line.{Line}
 use Rattle.uses.specs.declared.Word.{Word}
 use Rattle.uses.specs.declared.Word.TheVariants.{Open, Certain, Loose}
@@ -10,7 +10,6 @@ use Rattle.table.specs.declared.table.Table.{Table}
 use Rattle.sheet.specs.Asks.{Found, NotFound}
 use Rattle.table.specs.Blank.{line_at}
 use Rattle.table.specs.Lineup.{width_of, begun_over, byte_in, settled_line}
-use Rattle.uses.specs.Way.{pin_number}
 use Rattle.uses.specs.Model.{State, is_open, counted, word_number}
 use Rattle.uses.specs.Step.{Settles, Rest, none, some}
 use Rattle.checks.specs.View.{view}
@@ -43,12 +42,12 @@ module _ (w : ℕ) (pins : List ℕ) (f : ℕ → ℕ) (ps : (k : ℕ) → get_o
       (cases_lt k w)
 
 -- a pinned statement is one of the source's
-pub pin_inside : (w : ℕ) (t : Table) → width_of t.over ≡ w → (k : ℕ) → ((view w t).pin k ≡ 0 → ⊥) → k < w
-pin_inside w t e k h = ⊎_elim (λ (x : k < w). x) (λ (x : w ≤ k). absurd (h (ap pin_number (t.unpinned k (omega arith))))) (cases_lt k w)
+pub pin_inside : (w : ℕ) (t : Table) → width_of t.over ≡ w → (k : ℕ) → ((line_at t.lines.rows k).pin ≡ 0 → ⊥) → k < w
+pin_inside w t e k h = ⊎_elim (λ (x : k < w). x) (λ (x : w ≤ k). absurd (h (t.unpinned k (omega arith)))) (cases_lt k w)
 
 module _ (w : ℕ) (plan : List ℕ → Type 0) (whole : (p : List ℕ) → plan p → Whole w p) (t u : Table) (pins marks : List ℕ)
     (wide : width_of t.over ≡ w)
-    (ps : (k : ℕ) → get_or pins k 0 ≡ (view w t).pin k) where
+    (ps : (k : ℕ) → get_or pins k 0 ≡ (line_at t.lines.rows k).pin) where
   mark_inside : (k : ℕ) → get_or (take w marks) k 0 ≡ 1 → k < w
   mark_inside k h =
       ⊎_elim (λ (x : k < w). x) (λ (x : w ≤ k). let z = take_past w marks k x in absurd (omega arith)) (cases_lt k w)
@@ -107,7 +106,7 @@ module _ (w : ℕ) (plan : List ℕ → Type 0) (whole : (p : List ℕ) → plan
       record {
         begun = ap (λ o. begun_over o w) e;
         mark = λ k. ap (λ (l : Line). l.candidate) (ls k);
-        pin = λ k. ap (λ (l : Line). pin_number l.pin) (ls k);
+        pin = λ k. ap (λ (l : Line). l.pin) (ls k);
       }
 
 -- a settling leaves no more open than there were
@@ -129,7 +128,7 @@ pub all_done
     → (view w t).begun ≡ true
     → ((k : ℕ) × (get_or marks k 0 ≡ 1) × (k < w))
     → before ≡ counted (view w t) Open (width_of t.over)
-    → ((k : ℕ) → get_or pins k 0 ≡ (view w t).pin k)
+    → ((k : ℕ) → get_or pins k 0 ≡ (line_at t.lines.rows k).pin)
     → MatchOption found (NotFound w plan pins marks) (Found w plan pins marks)
     → ((k : ℕ) → line_at u.lines.rows k ≡ settled_line (byte_in found k) (line_at t.lines.rows k) (get_or marks k 0))
     → u.over ≡ t.over
@@ -162,3 +161,11 @@ pub settles_by_lem
 settles_by_lem w plan m n f g e (none x y) =
     none (λ p q a k h. x p q a k (e k ∙ h)) (λ k. y k ∙ ap (λ b. cond b 1 (m.word k)) (e k))
 settles_by_lem w plan m n f g e (some p q a k h i y) = some p q a k (sym (e k) ∙ h) i y
+
+-- a group in a longer table
+pub widened_few : (b : ℕ) (g ms : List ℕ) → UpTo b g → ((k : ℕ) → get_or ms k 0 ≡ get_or g k 0) → UpTo b ms
+widened_few b g ms u e k h =
+    ⊎_elim
+    (λ (l : k < length g). subst (λ x. x ≤ b) (sym (e k)) (u k l))
+    (λ (l : length g ≤ k). let z = get_or_past g k 0 l in let y = e k in omega arith)
+    (cases_lt k (length g))

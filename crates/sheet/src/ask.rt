@@ -21,5 +21,10 @@ pub fn ask<S: Source>(source: &S, pins: &[u8; LINES], group: &[u8; LINES]) -> Op
         group: &group[..width],
     };
     let mut place = [UNDECIDED; LINES];
-    finds(source, question, &mut place[..width]).then_some(place)
+    // Stays: an `if`, since `then_some` takes the plan by value, and it would be copied twice more.
+    if finds(source, question, &mut place[..width]) {
+        Some(place)
+    } else {
+        None
+    }
 }

@@ -1,15 +1,17 @@
 // The certainty sheet over any source: which candidates hold in every plan, promised step by step and never taken back.
 #![tactic(auto)]
 
-ghost use Rattle.std.specs.Prelude.{◌≡◌, ℕ, ◌+◌, ◌<◌, ◌≤◌, true, replicate, MatchResult, nat_eq, slice_index};
+ghost use Rattle.std.specs.Prelude.{◌≡◌, ℕ, ◌+◌, ◌<◌, ◌≤◌, true, MatchOption, MatchResult, nat_eq, slice_index};
 ghost use Rattle.source.specs.Plans.{Of, UpTo};
 ghost use Rattle.uses.specs.declared.SheetRefusal.TheVariants.{NoPlan};
 ghost use Rattle.uses.specs.declared.Word.TheVariants.{Open};
 ghost use Rattle.uses.specs.Model.{Fresh, begin, settle, settle_by, pin, tell, tally, counted};
 ghost use Rattle.uses.specs.Step.{Rest, Settles};
+ghost use Rattle.table.specs.Blank.{line_at};
+ghost use Rattle.table.specs.Lineup.{width_of, byte_in, settled_line};
 ghost use Rattle.checks.specs.View.{view};
 ghost use Rattle.sheet.specs.View.{done_of, settled_of, told_of, tallied_of, Steps, LawStarts, LawContinues};
-ghost use Rattle.sheet.specs.Asks.{Found, NotFound};
+ghost use Rattle.sheet.specs.Asks.{Found, NotFound, PinnedBy};
 
 use ask::ask;
 use checks::Checks;
@@ -49,8 +51,8 @@ impl<S: Source> Sheet<S> {
         ensures law { LawContinues (S.wide self.old.source) (S.plan self.old.source) self.old.table (begin candidates.now) (done_of result) self.new.table }
     {
         self.checks().may_begin(candidates)?;
-        let plan = self.plan(&[UNDECIDED; LINES])?;
         let marks = widened(candidates);
+        let plan = self.plan(&[UNDECIDED; LINES], &[0; LINES])?;
         self.table.begin(self.source.width(), &marks, &plan);
         Ok(())
     }
@@ -82,9 +84,9 @@ impl<S: Source> Sheet<S> {
         ensures step { Steps (S.wide self.old.source) (S.plan self.old.source) self.old.table (pin statement way) (done_of result) self.new.table }
         ensures law { LawContinues (S.wide self.old.source) (S.plan self.old.source) self.old.table (pin statement way) (done_of result) self.new.table }
     {
-        let way = self.checks().may_pin(statement, way)?;
-        let plan = self.plan(&self.table.pins_with(statement, way))?;
-        self.table.repin(statement, way, &plan);
+        let way = self.checks().may_pin(statement, way)?.number();
+        let pins = self.table.pins_with(statement, way);
+        self.pin_lines(&pins, &[0; LINES], statement, way)?;
         Ok(())
     }
 
@@ -114,13 +116,51 @@ impl<S: Source> Sheet<S> {
         }
     }
 
-    // Questions with the pins and without a group.
-    fn plan(&self, pins: &[u8; LINES]) -> Result<[u8; LINES], SheetRefusal>
+    // Questions with the pins and the group, which is empty in every call, and wants a plan.
+    // Stays: the group is lent, here and in the two below, so that another one is refused for what it asks.
+    fn plan(&self, pins: &[u8; LINES], group: &[u8; LINES]) -> Result<[u8; LINES], SheetRefusal>
         requires narrow { S.wide self.now.source ≤ 512 }
         requires pins { UpTo 2 pins.now }
-        ensures { MatchResult result (λ plan. Found (S.wide self.now.source) (Of (S.wide self.now.source) (S.plan self.now.source)) pins.now (replicate 512 0) plan) (λ e. (e ≡ NoPlan) × NotFound (S.wide self.now.source) (Of (S.wide self.now.source) (S.plan self.now.source)) pins.now (replicate 512 0)) }
+        requires group { UpTo 1 group.now }
+        ensures { MatchResult result (λ plan. Found (S.wide self.now.source) (Of (S.wide self.now.source) (S.plan self.now.source)) pins.now group.now plan) (λ e. (e ≡ NoPlan) × NotFound (S.wide self.now.source) (Of (S.wide self.now.source) (S.plan self.now.source)) pins.now group.now) }
     {
-        ask(&self.source, pins, &[0; LINES]).ok_or(SheetRefusal::NoPlan)
+        ask(&self.source, pins, group).ok_or(SheetRefusal::NoPlan)
+    }
+
+    // Questions with the pins and the empty group `none`, and has the lines take the pin if a plan comes, which it gives.
+    fn pin_lines(
+        &mut self,
+        pins: &[u8; LINES],
+        none: &[u8; LINES],
+        statement: usize,
+        way: u8,
+    ) -> Result<[u8; LINES], SheetRefusal>
+        requires narrow { S.wide self.old.source ≤ 512 }
+        requires pins { UpTo 2 pins.now }
+        requires none { UpTo 1 none.now }
+        requires inside { statement < width_of self.old.table.over }
+        requires way { way ≤ 2 }
+        ensures source { self.new.source ≡ self.old.source }
+        ensures asked { MatchResult result (λ plan. Found (S.wide self.old.source) (Of (S.wide self.old.source) (S.plan self.old.source)) pins.now none.now plan × PinnedBy self.old.table statement way plan self.new.table) (λ e. (e ≡ NoPlan) × NotFound (S.wide self.old.source) (Of (S.wide self.old.source) (S.plan self.old.source)) pins.now none.now × (self.new.table ≡ self.old.table)) }
+    {
+        let plan = self.plan(pins, none)?;
+        self.table.repin(statement, way, &plan);
+        Ok(plan)
+    }
+
+    // Questions with the pins and the group `marks`, and has the lines settle by the answer, which it gives.
+    fn settle_lines(&mut self, pins: &[u8; LINES], marks: &[u8; LINES]) -> Option<[u8; LINES]>
+        requires narrow { S.wide self.old.source ≤ 512 }
+        requires pins { UpTo 2 pins.now }
+        requires marks { UpTo 1 marks.now }
+        ensures source { self.new.source ≡ self.old.source }
+        ensures over { self.new.table.over ≡ self.old.table.over }
+        ensures asked { MatchOption result (NotFound (S.wide self.old.source) (Of (S.wide self.old.source) (S.plan self.old.source)) pins.now marks.now) (λ plan. Found (S.wide self.old.source) (Of (S.wide self.old.source) (S.plan self.old.source)) pins.now marks.now plan) }
+        ensures lines { (k : ℕ) → line_at self.new.table.lines.rows k ≡ settled_line (byte_in result k) (line_at self.old.table.lines.rows k) (slice_index marks.now k) }
+    {
+        let plan = ask(&self.source, pins, marks);
+        self.table.settle(&plan, marks);
+        plan
     }
 
     // Questions with the pins so far and the group `marks`; how many ceased to be open.
@@ -134,8 +174,8 @@ impl<S: Source> Sheet<S> {
         ensures count { result + counted (view (S.wide self.old.source) self.new.table) Open (S.wide self.old.source) ≡ counted (view (S.wide self.old.source) self.old.table) Open (S.wide self.old.source) }
     {
         let before = self.table.count(Word::Open);
-        let plan = ask(&self.source, &self.table.lines.pins(), marks);
-        self.table.settle(plan, marks);
+        let pins = self.table.lines.pins();
+        let _ = self.settle_lines(&pins, marks);
         before - self.table.count(Word::Open)
     }
 }

@@ -1,9 +1,7 @@
 -- Lines as the calls leave them.
 use Rattle.std.specs.Prelude.{ℕ, Bool, false, cond, List, Option, Some, None, ◌==◌, nat_lt, slice_index}
-use Rattle.std.specs.Option.{option_or}
+use Rattle.std.specs.Option.{unwrap_or}
 use Rattle.uses.specs.Model.{word_number, counted_by}
-use Rattle.uses.specs.Way.{pin_number}
-use Rattle.uses.specs.declared.Way.{Way}
 use Rattle.uses.specs.declared.Word.{Word}
 use Rattle.uses.specs.declared.Word.TheVariants.{Open, Certain, Loose}
 use Rattle.table.specs.declared.line.Line.{Line}
@@ -29,7 +27,7 @@ word_in byte = cond (byte == 2) Loose Open
 
 -- a line as a sheet begins, by its candidate mark and its byte in the plan
 abbrev pub begun_line : ℕ → ℕ → Line
-begun_line mark byte = record { candidate = (mark == 1); pin = None; word = cond (mark == 1) (word_in byte) Open }
+begun_line mark byte = record { candidate = (mark == 1); pin = 0; word = cond (mark == 1) (word_in byte) Open }
 
 -- the byte of the statement k in a plan, if a plan came
 abbrev pub byte_in : Option (List ℕ) → ℕ → Option ℕ
@@ -46,16 +44,16 @@ abbrev pub settled_line : Option ℕ → Line → ℕ → Line
 settled_line byte l mark = record { candidate = l.candidate; pin = l.pin; word = settled_word byte l mark }
 
 -- the word of a candidate after a pin that was kept, which is the line's own pin if there is one
-abbrev pub pinned_word : Option Way → Word → ℕ → Word
+abbrev pub pinned_word : Option ℕ → Word → ℕ → Word
 pinned_word pin v byte =
-    cond (pin_number pin == 1) Certain (cond (word_number v == word_number Certain) Certain (word_in byte))
+    cond (unwrap_or pin 0 == 1) Certain (cond (word_number v == word_number Certain) Certain (word_in byte))
 
 -- a line after a pin that was kept, which is the line's own pin if there is one
-abbrev pub pinned_line : Option Way → Line → ℕ → Line
+abbrev pub pinned_line : Option ℕ → Line → ℕ → Line
 pinned_line pin l byte =
     record {
       candidate = l.candidate;
-      pin = option_or pin l.pin;
+      pin = unwrap_or pin l.pin;
       word = cond l.candidate (pinned_word pin l.word byte) l.word;
     }
 

@@ -1,11 +1,10 @@
 // A line of a sheet, one for each statement, and what each call makes of it.
 ghost use Rattle.std.specs.Prelude.{◌≡◌};
-ghost use Rattle.uses.specs.Way.{pin_number};
 ghost use Rattle.table.specs.Lineup.{line_has, word_in, begun_line, settled_line, pinned_word, pinned_line};
 
 use source::WIDTH_MAX;
-use source::bytes::{FAILS, MARKED, UNDECIDED};
-use uses::{Way, Word};
+use source::bytes::{FAILS, HOLDS, MARKED, UNDECIDED};
+use uses::Word;
 
 // How many lines a sheet has.
 pub const LINES: usize = WIDTH_MAX;
@@ -14,7 +13,9 @@ pub const LINES: usize = WIDTH_MAX;
 pub struct Line {
     // Stays: a flag beside the word, since a settling may mark any line, and as an `Option<Word>` it would have to ask that it marks candidates alone.
     pub candidate: bool,
-    pub pin: Option<Way>,
+    // UNDECIDED where the statement is not pinned.
+    // Stays: a byte, since a line takes whatever way it is given and an `Option<Way>` would ask more, and with three bytes to a line a sheet stays small.
+    pub pin: u8,
     pub word: Word,
 }
 
@@ -30,11 +31,11 @@ fn word_in(byte: u8) -> Word
 }
 
 // A candidate's word after a pin that was kept, which is its own pin if there is one.
-fn pinned_word(pin: Option<Way>, word: Word, byte: u8) -> Word
+fn pinned_word(pin: Option<u8>, word: Word, byte: u8) -> Word
     ensures { result ≡ pinned_word pin word byte }
 {
     match (pin, word) {
-        (Some(Way::Holds), _) | (_, Word::Certain) => Word::Certain,
+        (Some(HOLDS), _) | (_, Word::Certain) => Word::Certain,
         _ => word_in(byte),
     }
 }
@@ -47,20 +48,13 @@ impl Line {
         self.candidate && self.word == word
     }
 
-    // Its pin as a byte of a partial.
-    pub fn pin_byte(&self) -> u8
-        ensures { result ≡ pin_number self.now.pin }
-    {
-        self.pin.map_or(UNDECIDED, |way| way.number())
-    }
-
     // As a sheet begins.
     pub fn begin(&mut self, mark: u8, byte: u8)
         ensures { self.new ≡ begun_line mark byte }
     {
         *self = Line {
             candidate: mark == MARKED,
-            pin: None,
+            pin: UNDECIDED,
             word: if mark == MARKED {
                 word_in(byte)
             } else {
@@ -81,10 +75,13 @@ impl Line {
     }
 
     // As a pin that was kept leaves it, which is the line's own if there is one.
-    pub fn repin(&mut self, pin: Option<Way>, byte: u8)
+    pub fn repin(&mut self, pin: Option<u8>, byte: u8)
         ensures { self.new ≡ pinned_line pin self.old byte }
     {
-        self.pin = pin.or(self.pin);
+        // Stays: an `if`, since `unwrap_or` would write every line's pin, the other 511 too.
+        if let Some(way) = pin {
+            self.pin = way;
+        }
         if self.candidate {
             self.word = pinned_word(pin, self.word, byte);
         }

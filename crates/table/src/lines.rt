@@ -2,14 +2,13 @@
 // Stays: the lent bytes are read by index, since nothing is known of what is written through `iter_mut` under a `zip`.
 ghost use Rattle.std.specs.Prelude.{◌≡◌, ℕ, ◌<◌, ◌≤◌, true, false, length, MatchBool, ◌==◌, slice_index};
 ghost use Rattle.std.specs.Bool.{then_some};
-ghost use Rattle.uses.specs.Way.{pin_number};
 ghost use Rattle.uses.specs.declared.Word.TheVariants.{Open};
 ghost use Rattle.table.specs.Blank.{blank, line_at};
 ghost use Rattle.table.specs.Lineup.{line_has, begun_line, byte_in, settled_line, pinned_line};
 
 use crate::line::{LINES, Line};
-use source::bytes::MARKED;
-use uses::{Way, Word};
+use source::bytes::{MARKED, UNDECIDED};
+use uses::Word;
 
 #[derive(Drop)]
 pub struct Lines {
@@ -31,7 +30,7 @@ impl Lines {
     {
         let blank = Line {
             candidate: false,
-            pin: None,
+            pin: UNDECIDED,
             word: Word::Open,
         };
         Lines {
@@ -47,15 +46,15 @@ impl Lines {
         }
     }
 
-    pub fn settle(&mut self, plan: Option<[u8; LINES]>, marks: &[u8; LINES])
-        ensures { (k : ℕ) → line_at self.new.rows k ≡ settled_line (byte_in plan k) (line_at self.old.rows k) (slice_index marks.now k) }
+    pub fn settle(&mut self, plan: &Option<[u8; LINES]>, marks: &[u8; LINES])
+        ensures { (k : ℕ) → line_at self.new.rows k ≡ settled_line (byte_in plan.now k) (line_at self.old.rows k) (slice_index marks.now k) }
     {
         for (i, row) in self.rows.iter_mut().enumerate() {
-            row.settle(byte_in(&plan, i), marks[i]);
+            row.settle(byte_in(plan, i), marks[i]);
         }
     }
 
-    pub fn repin(&mut self, statement: usize, way: Way, plan: &[u8; LINES])
+    pub fn repin(&mut self, statement: usize, way: u8, plan: &[u8; LINES])
         requires { statement < 512 }
         ensures { (k : ℕ) → line_at self.new.rows k ≡ pinned_line (then_some (k == statement) way) (line_at self.old.rows k) (slice_index plan.now k) }
     {
@@ -66,9 +65,14 @@ impl Lines {
 
     // The pins of the lines.
     pub fn pins(&self) -> [u8; LINES]
-        ensures { (k : ℕ) → slice_index result k ≡ pin_number (line_at self.now.rows k).pin }
+        ensures { (k : ℕ) → slice_index result k ≡ (line_at self.now.rows k).pin }
     {
-        self.rows.map(|line| line.pin_byte())
+        // Stays: a loop, since `map` takes the lines by value, and they would be copied to give their pins.
+        let mut pins = [UNDECIDED; LINES];
+        for (i, line) in self.rows.iter().enumerate() {
+            pins[i] = line.pin;
+        }
+        pins
     }
 
     // Whether the statement is an open candidate.

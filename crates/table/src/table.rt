@@ -2,15 +2,14 @@
 ghost use Rattle.std.specs.Prelude.{◌≡◌, ℕ, ◌<◌, ◌≤◌, false, cond, take, if◌then◌else◌, MatchBool, ◌==◌, ◌≢◌, nat_lt, slice_index};
 ghost use Rattle.uses.specs.Step.{pinned_at};
 ghost use Rattle.std.specs.Bool.{then_some};
-ghost use Rattle.uses.specs.Way.{way_number, pin_number};
 ghost use Rattle.uses.specs.declared.Word.TheVariants.{Open, Certain, Loose};
-ghost use Rattle.table.specs.Blank.{blank, line_at, Unmarked, Unpinned};
+ghost use Rattle.table.specs.Blank.{blank, line_at, PinsFew, Unmarked, Unpinned};
 ghost use Rattle.table.specs.Lineup.{width_of, begun_over, begun_line, byte_in, settled_line, pinned_line, lowest_of};
 
 use crate::line::{LINES, Line};
 use crate::lines::Lines;
 use source::bytes::MARKED;
-use uses::{Tally, Way, Word};
+use uses::{Tally, Word};
 
 #[derive(Drop)]
 pub struct Table {
@@ -18,6 +17,7 @@ pub struct Table {
     pub over: Option<usize>,
     pub lines: Lines,
     ghost narrow: { width_of over ≤ 512 },
+    ghost few: { PinsFew lines.rows },
     ghost unmarked: { Unmarked (width_of over) lines.rows },
     ghost unpinned: { Unpinned (width_of over) lines.rows },
 }
@@ -67,7 +67,12 @@ impl Table {
     pub fn count(&self, word: Word) -> usize
         ensures { result ≡ count_of word self.now }
     {
-        self.rows().iter().filter(|line| line.has(word)).count()
+        // Stays: a loop, since `filter` branches at each line, and the count took half as long again.
+        let mut n = 0;
+        for i in 0..self.width() {
+            n += usize::from(self.lines.rows[i].has(word));
+        }
+        n
     }
 
     // Whether no candidate is open.
@@ -105,12 +110,12 @@ impl Table {
     }
 
     // The pins with one more.
-    pub fn pins_with(&self, statement: usize, way: Way) -> [u8; LINES]
+    pub fn pins_with(&self, statement: usize, way: u8) -> [u8; LINES]
         requires inside { statement < width_of self.now.over }
-        ensures { (k : ℕ) → slice_index result k ≡ pinned_at (λ j. pin_number (line_at self.now.lines.rows j).pin) statement (way_number way) k }
+        ensures { (k : ℕ) → slice_index result k ≡ pinned_at (λ j. (line_at self.now.lines.rows j).pin) statement way k }
     {
         let mut pins = self.lines.pins();
-        pins[statement] = way.number();
+        pins[statement] = way;
         pins
     }
 
@@ -124,15 +129,16 @@ impl Table {
         self.lines.begin(marks, plan);
     }
 
-    pub fn settle(&mut self, plan: Option<[u8; LINES]>, marks: &[u8; LINES])
+    pub fn settle(&mut self, plan: &Option<[u8; LINES]>, marks: &[u8; LINES])
         ensures over { self.new.over ≡ self.old.over }
-        ensures lines { (k : ℕ) → line_at self.new.lines.rows k ≡ settled_line (byte_in plan k) (line_at self.old.lines.rows k) (slice_index marks.now k) }
+        ensures lines { (k : ℕ) → line_at self.new.lines.rows k ≡ settled_line (byte_in plan.now k) (line_at self.old.lines.rows k) (slice_index marks.now k) }
     {
         self.lines.settle(plan, marks);
     }
 
-    pub fn repin(&mut self, statement: usize, way: Way, plan: &[u8; LINES])
+    pub fn repin(&mut self, statement: usize, way: u8, plan: &[u8; LINES])
         requires inside { statement < width_of self.old.over }
+        requires way { way ≤ 2 }
         ensures over { self.new.over ≡ self.old.over }
         ensures lines { (k : ℕ) → line_at self.new.lines.rows k ≡ pinned_line (then_some (k == statement) way) (line_at self.old.lines.rows k) (slice_index plan.now k) }
     {

@@ -1,5 +1,5 @@
 -- The ways of a pin.
-use Rattle.std.specs.Prelude.{◌≡◌, ℕ, Option, Some, None, Result, MatchResult, ◌≢◌}
+use Rattle.std.specs.Prelude.{◌≡◌, ℕ, Result, MatchResult, ◌≢◌}
 use Rattle.uses.specs.declared.SheetRefusal.{SheetRefusal}
 use Rattle.uses.specs.declared.SheetRefusal.TheVariants.{Value}
 use Rattle.uses.specs.declared.Way.{Way}
@@ -9,11 +9,6 @@ use Rattle.uses.specs.declared.Way.TheVariants.{Holds, Fails}
 abbrev pub way_number : Way → ℕ
 way_number Holds = 1
 way_number Fails = 2
-
--- the byte of a pin in a partial, 0 for none
-abbrev pub pin_number : Option Way → ℕ
-pin_number None = 0
-pin_number (Some way) = way_number way
 
 -- the way by a byte: 1 holds, 2 fails, and any other is refused
 abbrev pub IsWayOf : ℕ → Result Way SheetRefusal → Type 0

@@ -1,9 +1,10 @@
 // The words, the tally and the refusals of a sheet; specs/ has its model, what each call does, its uses and the law over them.
 #![tactic(auto)]
 
-ghost use Rattle.std.specs.Prelude.{◌≡◌};
+ghost use Rattle.std.specs.Prelude.{◌≡◌, Some};
 ghost use Rattle.uses.specs.Model.{number_of, word_number};
 ghost use Rattle.uses.specs.Way.{way_number, IsWayOf};
+ghost use Rattle.uses.specs.Text.{word_text, way_text, tally_text, refusal_text};
 
 use source::bytes::{FAILS, HOLDS};
 use std::error::Error;
@@ -24,11 +25,14 @@ impl Word {
     pub fn number(self) -> u8
         ensures { result ≡ word_number self }
     {
+        // a word's discriminant is its number
         self as u8
     }
 }
 
 impl fmt::Display for Word {
+    ghost output = { λ w. Some (word_text w) };
+
     fn fmt<W: fmt::Write>(&self, f: &mut fmt::Formatter<W>) -> fmt::Result {
         f.write_str(match self {
             Word::Open => "open, not known yet",
@@ -71,6 +75,8 @@ impl TryFrom<u8> for Way {
 }
 
 impl fmt::Display for Way {
+    ghost output = { λ w. Some (way_text w) };
+
     fn fmt<W: fmt::Write>(&self, f: &mut fmt::Formatter<W>) -> fmt::Result {
         f.write_str(match self {
             Way::Holds => "holds",
@@ -88,6 +94,8 @@ pub struct Tally {
 }
 
 impl fmt::Display for Tally {
+    ghost output = { λ t. Some (tally_text t) };
+
     fn fmt<W: fmt::Write>(&self, f: &mut fmt::Formatter<W>) -> fmt::Result {
         write!(
             f,
@@ -132,11 +140,14 @@ impl SheetRefusal {
     pub fn number(self) -> u8
         ensures { result ≡ number_of self }
     {
+        // a refusal's discriminant is its number
         self as u8
     }
 }
 
 impl fmt::Display for SheetRefusal {
+    ghost output = { λ e. Some (refusal_text e) };
+
     fn fmt<W: fmt::Write>(&self, f: &mut fmt::Formatter<W>) -> fmt::Result {
         f.write_str(match self {
             SheetRefusal::Length => "not one byte for each statement",

@@ -1,10 +1,11 @@
-use Rattle.std.proofs.Common.{Some, Ok, Err, refl, ap, ◌∙◌}
+use Rattle.std.proofs.Common.{rules, Some, Ok, Err, refl, ap, ◌∙◌}
 use Rattle.checks.specs.Checks.{MayBegin}
 use Rattle.source.specs.Plans.{Of}
 use Rattle.sheet.specs.View.{Steps}
 use Rattle.sheet.proofs.Keeping.{law_continues, checked}
 use Rattle.sheet.proofs.Rows
 use Rattle.table.proofs.Zeros.{zeros_few}
+use Rattle.sheet.proofs.Settling.{widened_few}
 use Rattle.sheet.proofs.Sheet.begin.Goals as goal
 
 pub returns-in_err-may_begin : goal.returns-in_err-may_begin
@@ -17,6 +18,13 @@ returns-in_err-may_begin g c =
 
 pub plan-requires-clause-pins : goal.plan-requires-clause-pins
 plan-requires-clause-pins g c = zeros_few 2 512
+
+pub plan-requires-clause-group : goal.plan-requires-clause-group
+plan-requires-clause-group g c =
+    let may =
+    checked (λ v t. MayBegin v t c.args.candidates.now (Ok tt)) _ _ _ _ c.checks.ensures.width c.checks.ensures.table c.in_ok-may_begin.ensures in
+    -- the marks would be a group too
+    search (rules, zeros_few 1 512, widened_few 1 c.args.candidates.now c.widened-marks.result may.1 c.widened-marks.ensures)
 
 pub returns-in_err-plan : goal.returns-in_err-plan
 unfolding Steps

@@ -1,11 +1,10 @@
-use Rattle.std.proofs.Common.{rules, ◌≡◌, take, ◌∙◌, arith}
-use Rattle.std.specs.List.{count_by}
-use Rattle.std.proofs.iter.runs.Made.{chains}
-use Rattle.table.specs.Lineup.{width_of, line_has}
-use Rattle.table.proofs.Counting.{counted}
+use Rattle.std.proofs.Common.{rules, ◌≡◌, cond}
+use Rattle.table.specs.Blank.{line_at}
+use Rattle.table.specs.Lineup.{line_has}
+use Rattle.table.proofs.Counting.{count_more}
 use Rattle.table.proofs.table.Table.count.Goals as goal
 
-pub returns : goal.returns
-returns c =
-    let e : c.count.result ≡ count_by (line_has c.args.word) (take (width_of c.args.self.now.over) c.args.self.now.lines.rows) = search (rules, chains) in
-    e ∙ counted (line_has c.args.word) c.args.self.now.lines.rows _ (omega arith)
+pub loop-i-preserved : goal.loop-i-preserved
+loop-i-preserved c =
+    let r : c.from-n.result ≡ cond c.has.result 1 0 = search rules in
+    count_more (λ k. line_has c.args.word (line_at c.args.self.now.lines.rows k)) _ _ _ _ c.loop-i.invariant.0 c.loop-i.invariant.1 c.has.ensures r
