@@ -13,7 +13,9 @@ use Rattle.stable.proofs.Forced.{row_to, row_from, stated_to, stated_from, unf_f
 use Rattle.rulebook.specs.declared.row.RuleRow.{RuleRow}
 use Rattle.rulebook.specs.Rows.{blank}
 use Rattle.bases.specs.Bodiless.{bodiless}
-use Rattle.turns.specs.Meaning.{head_of, book_of}
+use Rattle.rulebook.specs.declared.sealed.Rulebook.{Rulebook}
+use Rattle.turns.specs.declared.table.Table.{Table}
+use Rattle.turns.specs.Meaning.{head_of, book_of, book_at, book_in, Tables}
 use Rattle.turns.specs.Table.{LawTurn, RowKept, StatementKept, UnfoundedFail, TableOk, rule_at}
 use Rattle.turns.proofs.Sealed.{many, rule_of_lem, table_sound}
 use Rattle.turns.proofs.Steps.{head_some, head_none}
@@ -132,3 +134,11 @@ bodiless_turn p rs es ok i l b c C k u =
           (ap (λ z. z.head) (rule_of_lem rs es i l) ∙ head_none (get_or rs i blank).head (eqb-true _ _ t.0))
           (ap (λ z. z.body) (rule_of_lem rs es i l) ∙ ap (λ m. take m (drop (get_or rs i blank).first es)) (eqb-true _ _ t.1)),
     )
+
+-- the table of a sealed rulebook says what the rulebook says
+pub tied_book : (b : Rulebook) (t : Table) → Tables b t → book_at t ≡ book_in b
+tied_book b t e = ap (λ n. book_of n t.rows.now t.entries.now) e.width ∙ ap (λ rs. book_of b.width rs t.entries.now) e.rows ∙ ap (λ es. book_of b.width (take b.rules b.rows) es) e.entries
+
+pub tied_turn : (b : Rulebook) (t : Table) → Tables b t → (p q : List ℕ) (k : ℕ) (step : Result Bool Clash) → length p ≡ t.width →
+    Turn (book_forces (book_of (length p) t.rows.now t.entries.now)) k p q step → Turn (book_forces (book_in b)) k p q step
+tied_turn b t e p q k step w d = subst (λ rb. Turn (book_forces rb) k p q step) (ap (λ n. book_of n t.rows.now t.entries.now) w ∙ tied_book b t e) d

@@ -10,7 +10,7 @@ ghost use Rattle.stable.specs.Decide.{book_forces};
 ghost use Rattle.stable.specs.Books.{BookPlan};
 ghost use Rattle.bases.specs.Bodiless.{bodiless};
 ghost use Rattle.bases.specs.ByRules.{ByRules};
-ghost use Rattle.bases.specs.Tables.{table_forces, table_based};
+ghost use Rattle.bases.specs.Sealed.{sealed_forces, sealed_based};
 ghost use Rattle.turns.specs.Meaning.{book_at, book_in, Tables};
 
 use base::{Base, Outcome};
@@ -46,34 +46,36 @@ fn row_turn(table: &Table, p: &mut [u8], i: usize) -> Turned
 impl<'a> RulebookRules<'a> {
     // The rules of a sealed rulebook, ready to extend partials.
     pub fn over(book: &'a Rulebook) -> RulebookRules<'a>
+        ensures lent { result.book.now ≡ book.now }
         ensures table { Tables book.now result.chained.table }
         ensures book { book_at result.chained.table ≡ book_in book.now }
     {
         RulebookRules {
+            book,
             chained: ChainedTable::new(Table::from(book)),
         }
     }
 }
 
 impl<'a> Rules for RulebookRules<'a> {
-    ghost forces = { λ s. book_forces (book_at s.chained.table) };
+    ghost forces = { λ s. book_forces (book_in s.book.now) };
 
-    ghost plan = { λ s p. BookPlan (book_at s.chained.table) p };
+    ghost plan = { λ s p. BookPlan (book_in s.book.now) p };
 
-    ghost sound = { λ s. table_forces s.chained.table };
+    ghost sound = { λ s. sealed_forces s.book.now };
 
-    ghost based = { λ s. table_based s.chained.table };
+    ghost based = { λ s. sealed_based s.book.now };
 
     fn width(&self) -> usize {
-        self.chained.table.width
+        self.book.width
     }
 
     fn count(&self) -> usize {
-        self.chained.table.rows.len() + self.chained.table.width + 1
+        self.book.rules + self.book.width + 1
     }
 
     fn swift(&self) -> usize {
-        self.chained.table.rows.len() + self.chained.table.width
+        self.book.rules + self.book.width
     }
 
     // The turn of a row, then of a statement, then of the unfounded sets.

@@ -1,5 +1,5 @@
 // A rule as it stands in a table.
-ghost use Rattle.std.specs.Prelude.{◌≡◌, ◌+◌, ◌≤◌, length, take, drop, if◌then◌else◌, ◌==◌};
+ghost use Rattle.std.specs.Prelude.{◌≡◌, ◌+◌, ◌<◌, ◌≤◌, [], length, take, drop, if◌then◌else◌, ◌==◌};
 
 // A head statement, or NO_HEAD, and a run of entries: so many from the first on.
 #[derive(Clone, Copy, Debug, PartialEq, Eq)]
@@ -28,13 +28,15 @@ impl RuleRow {
         (self.head != Self::NO_HEAD).then_some(self.head)
     }
 
-    // Its run among the entries of its table.
+    // Its run among the entries of its table; none of it, if it is not all among them.
     pub fn body(self, entries: &[u16]) -> &[u16]
-        requires { self.first + self.count ≤ length entries.now }
-        ensures { result.now ≡ take self.count (drop self.first entries.now) }
+        ensures run { self.first + self.count ≤ length entries.now → result.now ≡ take self.count (drop self.first entries.now) }
+        ensures past { length entries.now < self.first + self.count → result.now ≡ [] }
     {
         let first = self.first as usize;
-        &entries[first..first + self.count as usize]
+        entries
+            .get(first..first + self.count as usize)
+            .unwrap_or(&[])
     }
 
     // Whether its head is missing or among so many statements, and its run among so many entries.

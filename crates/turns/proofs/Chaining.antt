@@ -1,9 +1,9 @@
 -- Chains of rows: one row more, and a walk down a chain.
-use Rattle.std.proofs.Common.{◌≡◌, ℕ, zero, suc, ◌+◌, ◌<◌, ◌≤◌, cond, eqb, true, false, ◌≢◌, List, length, get_or, set, Option, Some, None, sym, refl, ap, ◌∙◌, subst, inl, inr, arith, add-one}
+use Rattle.std.proofs.Common.{◌≡◌, ℕ, zero, suc, ◌+◌, ◌<◌, ◌≤◌, cond, eqb, true, false, ◌≢◌, List, length, get_or, set, replicate, Option, Some, None, sym, refl, ap, ◌∙◌, subst, inl, inr, arith, add-one}
 use Rattle.std.proofs.lemmas.Bool.{cases_eq, cases_lt, ne_eqb, eq-eqb}
 use Rattle.std.specs.Option.{option_map_or, is_some}
 use Rattle.closing.specs.declared.Few.TheVariants.{Nothing, Only, Several}
-use Rattle.std.proofs.lemmas.List.{get_or-set_same, get_or-set_other, length-set}
+use Rattle.std.proofs.lemmas.List.{get_or-set_same, get_or-set_other, get_or-replicate, get_or_past, length-set, length-replicate}
 use Rattle.rulebook.specs.declared.row.RuleRow.{RuleRow}
 use Rattle.rulebook.specs.Rows.{blank}
 use Rattle.turns.proofs.Steps.{has_head, no_head}
@@ -30,23 +30,33 @@ module _ (rs : List RuleRow) (n : ℕ) (ns os : List (Option ℕ)) (c : Chained 
           (get_or-set_same os n (get_or ns h None) None lo ∙ c.tops h lh ∙ ap (λ z. newest_row rs z n) (sym hd))
       | inr e ↦ get_or-set_other os n i (get_or ns h None) None e ∙ c.links i (omega arith) li'
     ];
+    ends = λ i l li. let x = length-set ns h (Some n) in let ne : i ≢ n = (λ q. let y = ap (head_at rs) q in omega arith) in
+        get_or-set_other os n i (get_or ns h None) None ne ∙ c.ends i (omega arith) (omega arith);
   }
 
   -- a row without
-  pub chain_skip : length ns ≤ head_at rs n → Chained rs (n + 1) ns os
-  chain_skip past = record {
+  pub chain_skip : length ns ≤ head_at rs n → get_or os n None ≡ None → Chained rs (n + 1) ns os
+  chain_skip past free = record {
     tops = λ s l. c.tops s l ∙ sym (other_head rs s n (λ q. omega arith));
     links = λ i l li. c.links i (let ne : i ≢ n = (λ q. let x = ap (head_at rs) q in omega arith) in omega arith) li;
+    ends = λ i l li. elim (cases_eq i n) [ inl e ↦ ap (λ z. get_or os z None) e ∙ free | inr e ↦ c.ends i (omega arith) li ];
   }
 
 pub chain_none : (rs : List RuleRow) (ns os : List (Option ℕ)) → ((s : ℕ) → s < length ns → get_or ns s None ≡ None) → Chained rs 0 ns os
-chain_none rs ns os z = record { tops = z; links = λ i l li. absurd (omega arith) }
+chain_none rs ns os z = record { tops = z; links = λ i l li. absurd (omega arith); ends = λ i l li. absurd (omega arith) }
 
--- the chains of the rows below n, as the loop over the rows keeps them
+pub none_at : (n k : ℕ) → ◌≡◌ {A = Option ℕ} (get_or (replicate n None) k None) None
+none_at n k = elim (cases_lt k n) [
+  | inl a ↦ get_or-replicate n k None None a
+  | inr b ↦ get_or_past (replicate n None) k None (rw length-replicate b)
+]
+
+-- the chains of the rows below n, as the loop over the rows keeps them: nothing is written for the others
 pub record ChainedTo (rs : List RuleRow) (n : ℕ) (ns os : List (Option ℕ)) : Type 0 where
   pub heads : length ns ≡ 512
   pub rows : length os ≡ 2048
   pub chained : Chained rs n ns os
+  pub free : (k : ℕ) → n ≤ k → get_or os k None ≡ None
 
 module _ (rs : List RuleRow) (n : ℕ) (ns os : List (Option ℕ)) (c : ChainedTo rs n ns os) where
   pub chain_head : (w s : ℕ) (ns' os' : List (Option ℕ)) → n < 2048 → s < w → w ≤ 512 → Some s ≡ cond (eqb (head_at rs n) 65535) None (Some (head_at rs n)) →
@@ -56,13 +66,15 @@ module _ (rs : List RuleRow) (n : ℕ) (ns os : List (Option ℕ)) (c : ChainedT
     rows = ap length f ∙ length-set os n (get_or ns s None) ∙ c.rows;
     chained = subst (λ z. Chained rs (n + 1) z os') (sym e) (subst (Chained rs (n + 1) (set ns s (Some n))) (sym f)
         (chain_more rs n ns os c.chained s (has_head (head_at rs n) s h).1 (let x = c.heads in omega arith) (let x = c.rows in omega arith)));
+    free = λ k l. ap (λ z. get_or z k None) f ∙ get_or-set_other os n k (get_or ns s None) None (λ q. absurd (omega arith)) ∙ c.free k (omega arith);
   }
 
   pub chain_headless : None ≡ cond (eqb (head_at rs n) 65535) None (Some (head_at rs n)) → ChainedTo rs (n + 1) ns os
   chain_headless h = record {
     heads = c.heads;
     rows = c.rows;
-    chained = chain_skip rs n ns os c.chained (let x = c.heads in let y = no_head (head_at rs n) h in omega arith);
+    chained = chain_skip rs n ns os c.chained (let x = c.heads in let y = no_head (head_at rs n) h in omega arith) (c.free n (omega arith));
+    free = λ k l. c.free k (omega arith);
   }
 
 -- what a chain's place says of the rows
@@ -89,6 +101,13 @@ newest_none rs s (suc n) e k l = elim (cases_eq (head_at rs n) s) [
     | inl z ↦ (λ w. q (ap (head_at rs) (sym z) ∙ w))
     | inr z ↦ newest_none rs s n (sym x ∙ e) k (omega arith)
   ])
+]
+
+-- from each row a chain leads to an earlier row with the same head, or ends
+pub chain_down : (rs : List RuleRow) (n : ℕ) (ns os : List (Option ℕ)) → Chained rs n ns os → (i j : ℕ) → i < n → get_or os i None ≡ Some j → (j < i) × (head_at rs j ≡ head_at rs i)
+chain_down rs n ns os c i j l e = elim (cases_lt (head_at rs i) (length ns)) [
+  | inl a ↦ (let w = newest_some rs (head_at rs i) i j (sym (c.links i l a) ∙ e) in (w.0, w.1))
+  | inr b ↦ (let z = sym (c.ends i l b) ∙ e in absurd (cc))
 ]
 
 pub some_of : (o : Option ℕ) → is_some o ≡ true → (j : ℕ) × (o ≡ Some j)

@@ -1,5 +1,6 @@
 -- A chain through the rows of each head, from the last row to the first.
 --   newest_row   the last row of a head among the first rows
+--   Ends         rows without a head lead nowhere
 --   Chained      the chains of the first rows
 --   Walked       how far a walk down a chain has come
 use Rattle.std.specs.Prelude.{◌≡◌, ℕ, zero, suc, ◌<◌, ◌≤◌, true, false, ◌≢◌, List, length, Option, Some, None, if◌then◌else◌, ◌==◌, slice_index_or}
@@ -23,10 +24,15 @@ Tops rows n newest = (s : ℕ) → s < length newest → slice_index_or newest s
 abbrev pub Links : List RuleRow → ℕ → ℕ → List (Option ℕ) → Type 0
 Links rows n heads older = (i : ℕ) → i < n → head_at rows i < heads → slice_index_or older i None ≡ newest_row rows (head_at rows i) i
 
--- the chains of the rows below n
+-- older leads nowhere from each of the rows below n without a head
+abbrev pub Ends : List RuleRow → ℕ → ℕ → List (Option ℕ) → Type 0
+Ends rows n heads older = (i : ℕ) → i < n → heads ≤ head_at rows i → slice_index_or older i None ≡ None
+
+-- the chains of the rows below n: each leads to earlier rows alone
 pub record Chained (rows : List RuleRow) (n : ℕ) (newest older : List (Option ℕ)) : Type 0 where
   pub tops : Tops rows n newest
   pub links : Links rows n (length newest) older
+  pub ends : Ends rows n (length newest) older
 
 -- a walk down the chain of s has come to the rows below n: those at n and above are seen
 pub record Walked (p : List ℕ) (rows : List RuleRow) (es : List ℕ) (s : ℕ) (next only : Option ℕ) : Type 0 where

@@ -3,7 +3,7 @@ ghost use Rattle.std.specs.Prelude.{◌≡◌, ℕ, ◌<◌, ◌≤◌, length, 
 ghost use Rattle.std.proofs.Props.{props};
 ghost use Rattle.source.specs.Plans.{UpTo, Partial};
 ghost use Rattle.closing.specs.Sets.{Codes};
-ghost use Rattle.turns.specs.Chain.{Tops, Links};
+ghost use Rattle.turns.specs.Chain.{Tops, Links, Ends};
 ghost use Rattle.turns.specs.Table.{Hit, LawTurn, AllOf, HoldAt};
 
 use crate::table::Table;
@@ -28,6 +28,7 @@ pub struct ChainedTable<'a> {
     ghost long: { (length chains.newest ≡ 512) × (length chains.older ≡ 2048) },
     ghost tops: { Tops table.rows.now (length table.rows.now) chains.newest } by { Prim.hlevel props },
     ghost links: { Links table.rows.now (length table.rows.now) 512 chains.older } by { Prim.hlevel props },
+    ghost ends: { Ends table.rows.now (length table.rows.now) 512 chains.older } by { Prim.hlevel props },
 }
 
 impl Chains {

@@ -8,9 +8,10 @@ ghost use Rattle.turns.specs.Meaning.{lifted};
 ghost use Rattle.turns.specs.Table.{LawTurn, RowKept, head_in, rule_from};
 
 use crate::table::Table;
-use crate::{failing, holding, holds_in};
+use crate::{holding, holds_in};
 use closing::{Clash, Few, Turned, contrary_of, decide, exceptions};
 use rulebook::row::RuleRow;
+use source::bytes::FAILS;
 
 // Which entries of a body, read as a set, do not hold.
 fn lacking(p: &[u8], body: &[u16]) -> Few<u16>
@@ -20,13 +21,12 @@ fn lacking(p: &[u8], body: &[u16]) -> Few<u16>
     exceptions(body, |e| holds_in(p, e))
 }
 
-// Whether a rule's head fails or is missing.
+// Whether a rule's head fails or is missing. By its byte, so that it asks for no width of the partial.
 fn head_fails(p: &[u8], head: Option<u16>) -> bool
-    requires narrow { length p.now ≤ 512 }
-    requires headed { IfSome head (λ s. s < length p.now) }
+    requires { IfSome head (λ s. s < length p.now) }
     ensures { MatchBool result (HeadFails (holds p.now) (lifted head)) (HeadFails (holds p.now) (lifted head) → ⊥) }
 {
-    head.is_none_or(|s| holds_in(p, failing(s as usize)))
+    head.is_none_or(|s| p[s as usize] == FAILS)
 }
 
 // Forward and contraposition for one rule. Its head is read only where it matters: mostly several entries are lacking.

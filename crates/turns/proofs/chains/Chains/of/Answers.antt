@@ -1,12 +1,11 @@
-use Rattle.std.proofs.Common.{◌+◌, None, sym, refl, subst, arith}
-use Rattle.std.proofs.lemmas.List.{get_or-replicate}
+use Rattle.std.proofs.Common.{◌+◌, sym, refl, subst, arith}
 use Rattle.turns.specs.declared.chains.Chains.{Chains}
-use Rattle.turns.proofs.Chaining.{ChainedTo, chain_none, chain_head, chain_headless}
+use Rattle.turns.proofs.Chaining.{ChainedTo, none_at, chain_none, chain_head, chain_headless}
 use Rattle.turns.proofs.chains.Chains.of.Goals.{in-Some, in_default}
 use Rattle.turns.proofs.chains.Chains.of.Goals as goal
 
 pub loop-i-init : goal.loop-i-init
-loop-i-init c = record { heads = refl; rows = refl; chained = chain_none c.args.table.now.rows.now _ _ (λ s l. get_or-replicate 512 s None None l) }
+loop-i-init c = record { heads = refl; rows = refl; chained = chain_none c.args.table.now.rows.now _ _ (λ s l. none_at 512 s); free = λ k l. none_at 2048 k }
 
 pub loop-i-preserved : goal.loop-i-preserved
 loop-i-preserved c = let t = c.args.table.now in elim c.match-head.branch [
