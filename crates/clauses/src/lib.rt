@@ -62,13 +62,13 @@ fn list_fits(width: usize, runs: &[Run], entries: &[u16]) -> bool
         && codes_fit(entries, width)
 }
 
-impl<'a> ClauseList<'a> {
+impl<'a, 'b> ClauseList<'a, 'b> {
     // The clauses lent, if they are within the limits.
     pub fn new(
         width: usize,
         runs: &'a [Run],
-        entries: &'a [u16],
-    ) -> Result<ClauseList<'a>, ClauseRefusal>
+        entries: &'b [u16],
+    ) -> Result<ClauseList<'a, 'b>, ClauseRefusal>
         ensures taken { IfOk result (λ list. ClausesOk width runs.now entries.now × (list.width ≡ width) × (list.runs.now ≡ runs.now) × (list.entries.now ≡ entries.now)) }
         ensures refused { OnErr result (¬ ClausesOk width runs.now entries.now) }
     {
@@ -84,7 +84,7 @@ impl<'a> ClauseList<'a> {
     }
 
     // No statements and no clauses, to be filled by `lend`.
-    pub fn empty() -> ClauseList<'a>
+    pub fn empty() -> ClauseList<'a, 'b>
         ensures width { result.width ≡ 0 }
         ensures runs { result.runs.now ≡ [] }
         ensures entries { result.entries.now ≡ [] }
@@ -101,7 +101,7 @@ impl<'a> ClauseList<'a> {
         &mut self,
         width: usize,
         runs: &'a [Run],
-        entries: &'a [u16],
+        entries: &'b [u16],
     ) -> Result<(), ClauseRefusal>
         ensures taken { OnOk result (ClausesOk width runs.now entries.now × (self.new.width ≡ width) × (self.new.runs.now ≡ runs.now) × (self.new.entries.now ≡ entries.now)) }
         ensures refused { OnErr result ((¬ ClausesOk width runs.now entries.now) × (self.new ≡ self.old)) }
@@ -111,7 +111,7 @@ impl<'a> ClauseList<'a> {
     }
 
     // The entries of clause k.
-    fn clause(&self, k: usize) -> &'a [u16]
+    fn clause(&self, k: usize) -> &'b [u16]
         requires { k < length self.now.runs.now }
         ensures { result.now ≡ clause_at self.now.runs.now self.now.entries.now k }
     {
@@ -133,7 +133,7 @@ fn clause_turn(p: &mut [u8], clause: &[u16]) -> Turned
     }
 }
 
-impl<'a> Rules for ClauseList<'a> {
+impl<'a, 'b> Rules for ClauseList<'a, 'b> {
     ghost forces = { λ s. clause_forces s.width s.runs.now s.entries.now };
 
     ghost plan = { λ s p. ClausePlan s.width s.runs.now s.entries.now p };

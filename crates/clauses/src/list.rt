@@ -4,10 +4,11 @@ ghost use Rattle.clauses.specs.Clauses.{ClausesOk};
 use crate::run::Run;
 
 // Clauses over lent runs and entries.
+// Stays: two lifetimes, since runs and entries may be lent for different times.
 #[derive(Drop)]
-pub struct ClauseList<'a> {
+pub struct ClauseList<'a, 'b> {
     pub width: usize,
     pub runs: &'a [Run],
-    pub entries: &'a [u16],
+    pub entries: &'b [u16],
     ghost sound: { ClausesOk width runs.now entries.now },
 }

@@ -8,7 +8,6 @@ use closing::Closing;
 use search::Search;
 use source::bytes::{FAILS, HOLDS, MARKED, UNDECIDED, marks_any};
 use source::{Answer, Question, Refusal, WIDTH_MAX};
-use std::alloc::{AllocError, Global};
 use std::cell::Cell;
 use std::io;
 use std::time::Instant;
@@ -86,10 +85,12 @@ fn settle<B: Base>(
 }
 
 // Settles a base of so many statements.
-fn settle_base<B: Base>(base: &B, width: usize, alloc: Global) -> Option<Settled> {
-    let none = vec![in alloc; UNDECIDED; width].ok()?;
-    let mut open = vec![in alloc; 0; width].ok()?;
-    let mut place = vec![in alloc; UNDECIDED; width].ok()?;
+// Stays: arrays, here and below, since a count must not depend on whether memory suffices.
+fn settle_base<B: Base>(base: &B, width: usize) -> Option<Settled> {
+    let none = [UNDECIDED; WIDTH_MAX];
+    let mut open = [0; WIDTH_MAX];
+    let mut place = [UNDECIDED; WIDTH_MAX];
+    let open = open.get_mut(..width)?;
     let count = Cell::new(0);
     let search = Search {
         base: Counting {
@@ -97,7 +98,7 @@ fn settle_base<B: Base>(base: &B, width: usize, alloc: Global) -> Option<Settled
             count: &count,
         },
     };
-    let questions = settle(&search, &none, &mut open, &mut place).ok()?;
+    let questions = settle(&search, none.get(..width)?, open, place.get_mut(..width)?).ok()?;
     Some(Settled {
         questions,
         certain: open.iter().filter(|&&mark| mark == MARKED).count(),
@@ -105,42 +106,44 @@ fn settle_base<B: Base>(base: &B, width: usize, alloc: Global) -> Option<Settled
     })
 }
 
-// The entries of the clauses of so many independent pairs: of each pair one holds, they exclude each other, and either
-// supports a third statement.
-fn entries_of(pairs: u8, alloc: Global) -> Result<Vec<u16>, AllocError> {
-    let mut entries = Vec::new(alloc);
-    for i in 0..pairs {
-        let a = 6 * u16::from(i);
+// The most pairs that are settled.
+const PAIRS_MAX: usize = 120;
+
+// The entries of the clauses of independent pairs: of each pair one holds, they exclude each other, and either supports
+// a third statement.
+fn entries() -> [u16; 8 * PAIRS_MAX] {
+    let mut entries = [0; 8 * PAIRS_MAX];
+    for (i, pair) in entries.chunks_exact_mut(8).enumerate() {
+        let a = 6 * (i as u16);
         let b = a + 2;
         let c = a + 4;
-        entries.extend_from_slice(&[a, b, a + 1, b + 1, a + 1, c, b + 1, c])?;
+        pair.copy_from_slice(&[a, b, a + 1, b + 1, a + 1, c, b + 1, c]);
     }
-    Ok(entries)
+    entries
 }
 
 // Those clauses, of two entries each.
-fn runs_of(pairs: u8, alloc: Global) -> Result<Vec<Run>, AllocError> {
-    (0..4 * u16::from(pairs))
-        .map(|clause| Run {
-            first: 2 * clause,
-            count: 2,
-        })
-        .collect(alloc)
+fn runs() -> [Run; 4 * PAIRS_MAX] {
+    let mut runs = [Run { first: 0, count: 2 }; 4 * PAIRS_MAX];
+    for (clause, run) in runs.iter_mut().enumerate() {
+        run.first = 2 * (clause as u16);
+    }
+    runs
 }
 
 // Settles so many independent pairs.
-fn settle_pairs(pairs: u8, alloc: Global) -> Option<Settled> {
-    let runs = runs_of(pairs, alloc).ok()?;
-    let entries = entries_of(pairs, alloc).ok()?;
-    let width = 3 * usize::from(pairs);
-    let rules = ClauseList::new(width, &runs, &entries).ok()?;
-    settle_base(&Closing { rules }, width, alloc)
+fn settle_pairs(pairs: usize) -> Option<Settled> {
+    let (runs, entries) = (runs(), entries());
+    let pairs = pairs.min(PAIRS_MAX);
+    let width = 3 * pairs;
+    let rules = ClauseList::new(width, &runs[..4 * pairs], &entries[..8 * pairs]).ok()?;
+    settle_base(&Closing { rules }, width)
 }
 
 fn main(rt: HostRuntime) -> io::Result<()> {
     for n in [20, 40, 60, 120] {
         let start = Instant::now(&rt)?;
-        let s = settle_pairs(n, rt.alloc()).unwrap_or_default();
+        let s = settle_pairs(n).unwrap_or_default();
         let micros = start.elapsed(&rt)?.as_micros();
         println!(rt;
             "pairs {n} questions {} certain {} extensions {}",

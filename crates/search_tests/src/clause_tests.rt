@@ -2,12 +2,12 @@
 ghost use Rattle.std.specs.Prelude.{◌≤◌};
 
 use crate::comparing::same_for_all;
-use crate::enumerator::{Rows, string, strings};
+use crate::enumerator::{FAILS, HOLDS, Rows, string, strings};
 use clauses::list::ClauseList;
 use clauses::run::Run;
 use closing::Closing;
 use search::Search;
-use source::bytes::{FAILS, HOLDS, byte_at};
+use source::bytes::byte_at;
 
 // The entries that a clause over at most four statements can have.
 const CODES: u16 = 8;
@@ -60,9 +60,10 @@ fn same_for_list<const N: usize, const C: usize>(clauses: &[u8; C]) -> bool
     let Some(entries) = lay(clauses, &mut runs, &mut entries) else {
         return false;
     };
-    let Ok(rules) = ClauseList::new(N, &runs, entries) else {
+    let mut rules = ClauseList::empty();
+    if rules.lend(N, &runs, entries).is_err() {
         return false;
-    };
+    }
     let search = Search {
         base: Closing { rules },
     };
@@ -84,6 +85,20 @@ fn same_for_lists<const N: usize, const C: usize>() -> bool
         }
     }
     true
+}
+
+// What a list keeps of entries that are lent for longer than its runs.
+fn kept_entries<'a>(entries: &'a [u16]) -> Option<&'a [u16]> {
+    let runs = [Run { first: 0, count: 1 }];
+    let mut list = ClauseList::empty();
+    list.lend(1, &runs, entries).ok()?;
+    Some(list.entries)
+}
+
+#[test]
+fn entries_outlive_runs(rt: HostRuntime) {
+    assert_eq!(rt; kept_entries(&[1]), Some([1].as_slice()));
+    assert_eq!(rt; kept_entries(&[2]), None);
 }
 
 #[test]

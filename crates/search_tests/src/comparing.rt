@@ -1,10 +1,9 @@
 // The search and the enumerator on the same questions.
 ghost use Rattle.std.specs.Prelude.{◌≤◌};
 
-use crate::enumerator::{Rows, first_row, string, strings};
+use crate::enumerator::{FAILS, MARKED, Rows, first_row, string, strings};
 use base::Base;
 use search::Search;
-use source::bytes::{FAILS, MARKED};
 use source::{Answer, Question};
 
 // A byte that no plan has, to see that a place is left alone.

@@ -1,7 +1,15 @@
 // The first serving row by running through all rows: it knows nothing of bases, extending or cutting.
 ghost use Rattle.std.specs.Prelude.{◌≤◌};
 
-use source::bytes::{FAILS, HOLDS, MARKED, UNDECIDED};
+// The bytes of rows, pins and groups.
+// Stays: figures of its own, since what is compared with the library takes nothing from it.
+const UNDECIDED: u8 = 0;
+
+pub const HOLDS: u8 = 1;
+
+pub const FAILS: u8 = 2;
+
+pub const MARKED: u8 = 1;
 
 // Tells the plans among whole rows.
 pub trait Rows {

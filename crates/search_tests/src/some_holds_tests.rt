@@ -2,10 +2,9 @@
 ghost use Rattle.std.specs.Prelude.{◌≤◌};
 
 use crate::comparing::same_for_all;
-use crate::enumerator::Rows;
+use crate::enumerator::{FAILS, HOLDS, Rows};
 use crate::some_holds::SomeHolds;
 use search::Search;
-use source::bytes::{FAILS, HOLDS};
 use source::{Answer, Question, Refusal, Source};
 
 #[derive(Drop)]

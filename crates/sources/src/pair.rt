@@ -115,11 +115,14 @@ impl<F: Source, S: Source> Pair<F, S> {
 fn share_of(first_group: &[u8], second_group: &[u8]) -> Share
     ensures { Shared first_group.now second_group.now result }
 {
-    match (marks_any(first_group), marks_any(second_group)) {
-        (_, false) => Share::First,
-        (false, true) => Share::Second,
-        (true, true) => Share::Either,
+    // Stays: the first half is read only where the second marks any, so that an empty group is passed over once.
+    if !marks_any(second_group) {
+        return Share::First;
     }
+    if !marks_any(first_group) {
+        return Share::Second;
+    }
+    Share::Either
 }
 
 // A group that marks nothing.
